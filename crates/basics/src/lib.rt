@@ -1,0 +1,1 @@
+// Definitions and laws that are not about meshes; no code.

@@ -1,0 +1,59 @@
+-- Document 01, "Calls and refusals": what filling answers and leaves in the lent tables, for every input.
+use Prim.Native.Nat.{ℕ, _+_, _*_}
+use mathlib.Core.Bool.{Bool, not}
+use mathlib.Core.List.{List, _++_}
+use lib.IntN.{ℤ}
+use lib.ListN.{length, getD, drop}
+use lib.Dec.{ltb, leb, eqb}
+use Rattle.basics.specs.Choice.{if_then_else_}
+use Rattle.basics.specs.Lists.{count}
+use Rattle.lattice.specs.declared.Sizes.{Sizes}
+use Rattle.lattice.specs.Counts.{sizesFit, points}
+use Rattle.moving.specs.Block.{Block}
+use Rattle.moving.specs.Moving.{stateOf}
+use Rattle.filling.specs.declared.Filled.{Filled}
+use Rattle.filling.specs.Mesh.{rowsWith, table}
+use Rattle.filling.specs.Check.{cutFault, firstRim, firstCut}
+
+-- the answer, the state table and the row table after the call
+pub record Outcome : Type 0 where
+  pub answer : Filled
+  pub state : List ℕ
+  pub rows : List ℕ
+
+-- "M, the non-zero state bytes"
+unfoldable pub movedCount : List ℕ → ℕ
+movedCount state = count (λ p. not (eqb (getD state p 0) 0)) (length state)
+
+-- the rows written over the first entries of a table; "entries beyond 4T stay untouched"
+unfoldable pub overwritten : List ℕ → List ℕ → List ℕ
+overwritten new old = new ++ drop (length new) old
+
+module _ (b : Block) (state rows : List ℕ) where
+  -- refusals 1 to 7 "write nothing" and carry T 0 and M 0
+  abbrev pub refused : ℕ → ℕ → Outcome
+  refused n at = record { answer = record { number = n; rows = 0; moved = 0; place = at }; state = state; rows = rows }
+
+  -- "Filling answers 0 with T, M and place 0"; "After 10 the state table is filled, the row table is untouched, T and M are those
+  -- a longer table would have had"
+  unfoldable pub written : Outcome
+  written =
+      let codes = stateOf b in
+      let mesh = rowsWith b codes in
+      let fits = leb (4 * length mesh) (length rows) in
+      record {
+        answer = record { number = if fits then 0 else 10; rows = length mesh; moved = movedCount codes; place = 0 };
+        state = codes;
+        rows = if fits then overwritten (table mesh) rows else rows;
+      }
+
+  -- "1 to 5, then the lowest byte that is a 6 or a 7 (its offset is the place), then 10"
+  unfoldable pub fill : Outcome
+  fill =
+      if not (sizesFit (b .sizes)) then refused 1 0
+      else if not (eqb (length (b .samples)) (points (b .sizes))) then refused 2 0
+      else if not (eqb (length (b .cuts)) (7 * points (b .sizes))) then refused 3 0
+      else if not (eqb (length state) (points (b .sizes))) then refused 4 0
+      else if ltb (firstRim b) (points (b .sizes)) then refused 5 (firstRim b)
+      else if ltb (firstCut b) (7 * points (b .sizes)) then refused (cutFault b (firstCut b)) (firstCut b)
+      else written

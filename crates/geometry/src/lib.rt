@@ -1,0 +1,1 @@
+// Places of points and cuts, and the six-volume of a tetrahedron.

@@ -1,0 +1,32 @@
+-- Document 01, "Moving points": "A point's label is its sample's sign: plus, minus or zero."
+use mathlib.Core.Bool.{Bool, true, false}
+use lib.Dec.{eqb}
+use lib.IntN.{ℤ, pos, negsuc}
+use Rattle.basics.specs.Choice.{if_then_else_}
+use Rattle.moving.specs.declared.Label.{Label}
+use Rattle.moving.specs.declared.Label.the-variants.{Minus, Zero, Plus}
+
+unfoldable pub labelOf : ℤ → Label
+labelOf (negsuc n) = Minus
+labelOf (pos n) = if eqb n 0 then Zero else Plus
+
+unfoldable pub isPlus : Label → Bool
+isPlus Minus = false
+isPlus Zero = false
+isPlus Plus = true
+
+unfoldable pub isZero : Label → Bool
+isZero Minus = false
+isZero Zero = true
+isZero Plus = false
+
+unfoldable pub isMinus : Label → Bool
+isMinus Minus = true
+isMinus Zero = false
+isMinus Plus = false
+
+-- one is plus and the other is minus
+unfoldable pub opposed : Label → Label → Bool
+opposed Minus m = isPlus m
+opposed Zero m = false
+opposed Plus m = isMinus m

@@ -1,0 +1,4 @@
+pub mod Block
+pub mod Label
+pub mod Violation
+pub mod Moving

@@ -1,0 +1,4 @@
+pub mod Tetrahedron
+pub mod Row
+pub mod Stencil
+pub mod Id

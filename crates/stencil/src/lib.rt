@@ -1,0 +1,1 @@
+// The rows that a pattern of four labels gives.
