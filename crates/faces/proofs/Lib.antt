@@ -1,0 +1,3 @@
+pub mod Windings
+pub mod Pattern
+pub mod PatternTests
