@@ -70,12 +70,12 @@ within l rows f (m ∷ []) = any (facing rows f m) (pairs (theVertices .all) (th
 within l rows f (m ∷ n ∷ ms) = false
 
 -- a face on a side: it is one that the side's three labels put there
-unfoldable pub showing : Bool → (Vertex → Label) → Face (Entry Vertex) → Vertex → ℕ × Third → Bool
-showing s l f q c = sameFace f (lift q (turned (c .1) (shown s l q (c .0))))
+unfoldable pub showing : Bool → (Vertex → Label) → Face (Entry Vertex) → Vertex → ℕ → Bool
+showing s l f q n = any (λ t. sameFace f (lift q (turned t (shown s l q n)))) (theThirds .all)
 
 unfoldable pub beside : Bool → (Vertex → Label) → Face (Entry Vertex) → Vertex → Bool
 beside s l f q =
-    coversSide f q & (any (showing s l f q) (pairs (below (length (onSide l q))) (theThirds .all)) & (plusOn l q || zeros l f))
+    coversSide f q & (any (showing s l f q) (below (length (onSide l q))) & (plusOn l q || zeros l f))
 
 -- 1: every face of every row is of one of these kinds
 unfoldable pub fits : Bool → (Vertex → Label) → Face (Entry Vertex) → Rows → List ℕ → Bool
@@ -88,23 +88,27 @@ unfoldable pub fitting : Bool → (Vertex → Label) → Rows → Bool
 fitting s l rows = every (λ r. each theVertices (λ v. fits s l (faceOf (rowIn rows r) v) rows (others rows r (faceOf (rowIn rows r) v)))) (below (length rows))
 
 -- 2: with a plus among the labels, each face that three labels put on a side is a face of a row, and of no other
-unfoldable pub shows : Bool → (Vertex → Label) → Rows → Vertex → ℕ → ℕ × Vertex → Bool
-shows s l rows q n c =
-    alone (others rows (c .0) (faceOf (rowIn rows (c .0)) (c .1)))
-    & any (λ t. showing s l (faceOf (rowIn rows (c .0)) (c .1)) q (n, t)) (theThirds .all)
+unfoldable pub shows : Bool → (Vertex → Label) → Rows → Vertex → ℕ → ℕ → Vertex → Bool
+shows s l rows q n r v = alone (others rows r (faceOf (rowIn rows r) v)) & showing s l (faceOf (rowIn rows r) v) q n
+
+unfoldable pub showsIn : Bool → (Vertex → Label) → Rows → Vertex → ℕ → Bool
+showsIn s l rows q n = any (λ r. any (shows s l rows q n r) (theVertices .all)) (below (length rows))
 
 unfoldable pub showingAll : Bool → (Vertex → Label) → Rows → Bool
-showingAll s l rows =
-    imp (hasPlus l)
-    (each theVertices (λ q. every (λ n. any (shows s l rows q n) (pairs (below (length rows)) (theVertices .all))) (below (length (onSide l q)))))
+showingAll s l rows = imp (hasPlus l) (each theVertices (λ q. every (showsIn s l rows q) (below (length (onSide l q)))))
 
 -- 3: with no plus there are no rows; the ends of an entry ascend; the entries of a row differ
+unfoldable pub differing : Rows → ℕ → Vertex → Vertex → Bool
+differing rows r v w = imp (sameEntry (rowAt (rowIn rows r) v) (rowAt (rowIn rows r) w)) (same theVertices v w)
+
+unfoldable pub ascends : Rows → ℕ → Vertex → Bool
+ascends rows r v = leb (rank (tip false (rowAt (rowIn rows r) v))) (rank (tip true (rowAt (rowIn rows r) v)))
+
+unfoldable pub properAt : Rows → ℕ → Vertex → Bool
+properAt rows r v = ascends rows r v & each theVertices (differing rows r v)
+
 unfoldable pub proper : (Vertex → Label) → Rows → Bool
-proper l rows =
-    (hasPlus l || eqb (length rows) 0)
-    & every (λ r. each theVertices (λ v.
-        leb (rank (tip false (rowAt (rowIn rows r) v))) (rank (tip true (rowAt (rowIn rows r) v)))
-        & each theVertices (λ w. imp (sameEntry (rowAt (rowIn rows r) v) (rowAt (rowIn rows r) w)) (same theVertices v w)))) (below (length rows))
+proper l rows = (hasPlus l || eqb (length rows) 0) & every (λ r. each theVertices (properAt rows r)) (below (length rows))
 
 -- all patterns: four labels and a winding
 abbrev pub Quad : Type 0
@@ -127,9 +131,9 @@ unfolding _&_ fitting fits within facing beside showing zeros plusOn coversSide 
 fitting-ok = record { passed = tt }
 
 pub showingAll-ok : AllPatterns (λ s l. showingAll s l (signedFor s l))
-unfolding _&_ showingAll shows showing hasPlus alone others holds sameFace sameEntry keep from signedFor rowIn shown onSide onTriangle base rowsFor rowsOf stencilOf patternOf choose cut newcomer order evenFirst even signed isPlus isMinus isZero
+unfolding _&_ showingAll showsIn shows showing hasPlus alone others holds sameFace sameEntry keep from signedFor rowIn shown onSide onTriangle base rowsFor rowsOf stencilOf patternOf choose cut newcomer order evenFirst even signed isPlus isMinus isZero
 showingAll-ok = record { passed = tt }
 
 pub proper-ok : AllPatterns (λ s l. proper l (signedFor s l))
-unfolding _&_ proper hasPlus sameEntry from signedFor rowIn rowsFor rowsOf stencilOf patternOf choose cut newcomer order evenFirst even signed isPlus isMinus isZero
+unfolding _&_ proper properAt ascends differing hasPlus sameEntry from signedFor rowIn rowsFor rowsOf stencilOf patternOf choose cut newcomer order evenFirst even signed isPlus isMinus isZero
 proper-ok = record { passed = tt }
