@@ -2,3 +2,5 @@ pub mod Windings
 pub mod Pattern
 pub mod PatternTests
 pub mod PatternLaws
+pub mod Ascending
+pub mod Complex
