@@ -4,3 +4,6 @@ pub mod PatternTests
 pub mod PatternLaws
 pub mod Ascending
 pub mod Complex
+pub mod Neighbour
+pub mod NeighbourLaws
+pub mod Lattice
