@@ -7,3 +7,4 @@ pub mod Complex
 pub mod Neighbour
 pub mod NeighbourLaws
 pub mod Lattice
+pub mod Ids
