@@ -136,7 +136,7 @@ somewhere-i f along-z t = or-r (f along-x) _ (or-r (f along-y) (f along-z) t)
 -- a side has its neighbour in the block, or none and it is on the rim
 pub data Next (s : Sizes) (t : Tetrahedron) (q : Vertex) : Type 0 where
   inside : (u : Tetrahedron) → Valid s u → Beside t q u → Next s t q
-  outside : ((u : Tetrahedron) → Valid s u → Beside t q u → ⊥) → ((i : Third) → T (rimAt s (kind (side q i)) (corner t (side q i)))) → Next s t q
+  on-rim : ((u : Tetrahedron) → Valid s u → Beside t q u → ⊥) → ((i : Third) → T (rimAt s (kind (side q i)) (corner t (side q i)))) → Next s t q
 
 pub next-of : (s : Sizes) (t : Tetrahedron) (q : Vertex) → Valid s t → Next s t q
 unfolding rimAt outermost
@@ -151,5 +151,5 @@ next-of s t q h = go (every-or (Stays s t q) (Leaves s t q) (stays-or s t q h))
         inside (record { axis = nextTo (sideAt t q) .axis; edge = nextTo (sideAt t q) .edge; cube = λ c. t .cube c + nextTo (sideAt t q) .up c - nextTo (sideAt t q) .down c })
         (λ c. omega (arith, f c)) (record { axis = refl; edge = refl; cube = λ c. omega (arith, f c) })
     go (inr l) =
-        outside (λ u v b. let e : unit (u .axis) (l .0) ≡ unit (nextTo (sideAt t q) .axis) (l .0) = ap (λ (a : Axis). unit a (l .0)) (b .axis) in l .1 .0 (omega (arith, b .cube (l .0), v (l .0))))
+        on-rim (λ u v b. let e : unit (u .axis) (l .0) ≡ unit (nextTo (sideAt t q) .axis) (l .0) = ap (λ (a : Axis). unit a (l .0)) (b .axis) in l .1 .0 (omega (arith, b .cube (l .0), v (l .0))))
         (λ i. somewhere-i (λ c. outermost (grid s (kind (side q i)) c) (corner t (side q i) c)) (l .0) (outer _ _ (l .1 .1 i)))

@@ -8,3 +8,6 @@ pub mod Neighbour
 pub mod NeighbourLaws
 pub mod Lattice
 pub mod Ids
+pub mod Signed
+pub mod LatticeComplex
+pub mod Faces
