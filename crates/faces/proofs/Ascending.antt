@@ -6,12 +6,11 @@ use mathlib.Core.Bool.{Bool, true, false}
 use lib.Dec.{T, ltb, lt→ltb}
 use lib.ListN.{getD}
 use Rattle.basics.proofs.Test.{_&_, and-l, and-r, and-i, imp, imp-use, any, Member}
-use Rattle.basics.proofs.Finite.{each, each-use}
 use Rattle.basics.proofs.Tested.{Tested, tested, any-find, _⊗_, same, same-use}
 use Rattle.stencil.specs.Tetrahedron.{Vertex, v0, v1, v2, v3}
 use Rattle.stencil.specs.Row.{Third, t0, t1, t2}
 use Rattle.stencil.specs.Stencil.{Entry, between, rank}
-use Rattle.stencil.proofs.Corners.{theVertices, theThirds}
+use Rattle.stencil.proofs.Corners.{theVertices}
 use Rattle.faces.proofs.Pattern.{tip, side}
 
 abbrev pub Ascending : (Vertex → ℕ) → Type 0

@@ -11,17 +11,17 @@ use lib.ListN.{length, getD}
 use Rattle.basics.proofs.Test.{decide}
 use Rattle.basics.proofs.Tested.{any-i}
 use Rattle.moving.specs.declared.Label.{Label}
-use Rattle.moving.specs.declared.Label.the-variants.{Minus, Zero, Plus}
+use Rattle.moving.specs.declared.Label.the-variants.{Zero, Plus}
 use Rattle.moving.specs.Label.{isPlus}
-use Rattle.stencil.specs.Tetrahedron.{Vertex, v0, v1, v2, v3}
-use Rattle.stencil.specs.Row.{Row, row, Face, face, Third, t0, t1, t2, rowAt, faceAt, faceOf, turned, exchanged, Opposite, Holds, mapRow}
+use Rattle.stencil.specs.Tetrahedron.{Vertex}
+use Rattle.stencil.specs.Row.{Row, Face, face, Third, rowAt, faceAt, faceOf, turned, Opposite, Holds, mapRow}
 use Rattle.stencil.specs.Stencil.{Entry, between, rank}
 use Rattle.stencil.proofs.Corners.{theVertices}
 use Rattle.faces.proofs.Windings.{mapFace, rowAt-map, faceOf-map, faceAt-map, opposite-map, opposite-wound, holds-own, holds-opposite, wound}
 use Rattle.faces.proofs.Pattern.{signedFor, rowIn, tip, mapEntry, side, outward, onTriangle, onSide, shown, noFace, lift}
 use Rattle.faces.proofs.PatternTests.{hasPlus}
 use Rattle.faces.proofs.PatternLaws.{isPlus-i, Covers, Zeros, Alone, Fate, inner, free, on-side, fate, Showing, shown-once, has-plus, ordered}
-use Rattle.faces.proofs.Ascending.{Ascending, vertex-inj, entry-inj, same-side, same-four}
+use Rattle.faces.proofs.Ascending.{Ascending, entry-inj, same-side, same-four}
 
 pub record Complex : Type 1 where
   pub Cell : Type 0

@@ -12,7 +12,7 @@ use Rattle.lattice.specs.Counts.{points}
 use Rattle.moving.specs.declared.Label.{Label}
 use Rattle.moving.specs.declared.Label.the-variants.{Zero}
 use Rattle.stencil.specs.Tetrahedron.{Tetrahedron, Vertex, cornerNumber, tetrahedraOf}
-use Rattle.stencil.specs.Row.{Row, row, Face, Third, rowAt, faceAt, faceOf, Opposite, Holds, mapRow}
+use Rattle.stencil.specs.Row.{Row, row, rowAt, faceAt, faceOf, Opposite, Holds, mapRow}
 use Rattle.stencil.specs.Stencil.{Entry}
 use Rattle.stencil.specs.Id.{idOf}
 use Rattle.stencil.proofs.Sign.{winds}

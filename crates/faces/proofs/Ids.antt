@@ -1,23 +1,21 @@
 -- Ids are one to one: entries of two tetrahedra have the same id exactly if they stand between the same lattice points. Assumes nothing.
-use Prim.Native.Nat.{ℕ, _+_, _*_, _-_, _%_, _≤_, _<_, min, max}
+use Prim.Native.Nat.{ℕ, _+_, _*_, _≤_, _<_, min, max}
 use native.Mathlib.Omega.{arith}
-use mathlib.Core.Path.{_≡_, refl, sym, _∙_, ap, subst}
+use mathlib.Core.Path.{_≡_, refl, sym, _∙_, ap}
 use mathlib.Core.Logic.{_⊎_, inl, inr}
-use mathlib.Core.Bool.{Bool, true, false, not, _&&_}
-use lib.Dec.{T, eqb, eqb→eq, T-not, not-T}
+use mathlib.Core.Bool.{Bool, true, false, not}
+use lib.Dec.{eqb, eqb→eq, T-not, not-T}
 use Rattle.basics.specs.Choice.{if_then_else_}
 use Rattle.basics.specs.Lists.{firstFrom}
 use Rattle.basics.proofs.Test.{_&_, imp, imp-use, decide, T-true, F-false, eqb-of, lt-or}
-use Rattle.basics.proofs.Finite.{each, each-use}
 use Rattle.basics.proofs.Tested.{Tested, tested, _⊗_}
 use Rattle.lattice.specs.declared.Sizes.{Sizes}
 use Rattle.lattice.specs.declared.Kind.{Kind}
 use Rattle.lattice.specs.declared.Kind.the-variants.{Corner, Centre}
-use Rattle.lattice.specs.Axis.{Axis, along-x, along-y, along-z, everywhere}
+use Rattle.lattice.specs.Axis.{Axis, along-x, everywhere}
 use Rattle.lattice.specs.Counts.{points}
 use Rattle.lattice.specs.Point.{doubled, number}
 use Rattle.lattice.specs.Direction.{directions, direction, isStart, directionOf, step}
-use Rattle.lattice.specs.Edge.{byteAt}
 use Rattle.lattice.proofs.Axes.{theAxes}
 use Rattle.lattice.proofs.Number.{number-inj, number-lt}
 use Rattle.stencil.specs.Tetrahedron.{Tetrahedron, Vertex, Quarter, kind, unit, around, offset, corner, cornerNumber}

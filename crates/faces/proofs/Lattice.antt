@@ -2,7 +2,7 @@
 -- or is on the rim. Assumes nothing.
 use Prim.Native.Nat.{ℕ, _+_, _-_, _≤_, _<_}
 use native.Mathlib.Omega.{arith}
-use mathlib.Core.Path.{_≡_, refl, sym, _∙_, ap, subst}
+use mathlib.Core.Path.{_≡_, refl, sym, _∙_, ap}
 use mathlib.Core.Logic.{_⊎_, inl, inr}
 use mathlib.Core.Bool.{Bool, _||_}
 use lib.Dec.{T, eqb}
@@ -15,13 +15,12 @@ use Rattle.lattice.specs.Counts.{size, along, grid}
 use Rattle.lattice.specs.Point.{number}
 use Rattle.lattice.specs.Rim.{outermost, rimAt}
 use Rattle.lattice.proofs.Number.{number-inj}
-use Rattle.stencil.specs.Tetrahedron.{Tetrahedron, Vertex, v0, v1, v2, v3, Quarter, unit, offset, kind, corner, cornerNumber}
-use Rattle.stencil.specs.Row.{Third, t0, t1, t2}
-use Rattle.stencil.proofs.Sign.{winds}
+use Rattle.stencil.specs.Tetrahedron.{Tetrahedron, Vertex, v2, unit, offset, kind, corner, cornerNumber}
+use Rattle.stencil.specs.Row.{Third, t0}
 use Rattle.stencil.proofs.Valid.{Valid, corner-inside}
-use Rattle.faces.proofs.Pattern.{side, outward}
+use Rattle.faces.proofs.Pattern.{side}
 use Rattle.faces.proofs.Neighbour.{Neighbour, Side, nextTo, sideOf, sideOffset, sideKind}
-use Rattle.faces.proofs.NeighbourLaws.{next-kind, next-offset, next-differs, next-low, next-high, next-only, same-type}
+use Rattle.faces.proofs.NeighbourLaws.{next-kind, next-offset, next-low, next-high, next-only, same-type}
 
 pub tetrahedron-path : (t u : Tetrahedron) → t .axis ≡ u .axis → t .edge ≡ u .edge → ((c : Axis) → t .cube c ≡ u .cube c) → t ≡ u
 tetrahedron-path t u a e h = λ i. record { axis = a i; cube = λ c. h c i; edge = e i }

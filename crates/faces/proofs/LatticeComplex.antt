@@ -1,10 +1,9 @@
 -- The lattice of a block whose labels have no plus on the rim is a complex whose sides fit. Assumes nothing.
 use Prim.Native.Nat.{ℕ, _≤_, _<_}
-use mathlib.Core.Path.{_≡_, refl, sym, _∙_, ap}
+use mathlib.Core.Path.{_≡_, _∙_, ap}
 use mathlib.Core.Logic.{_⊎_, inl, inr}
-use mathlib.Core.Bool.{Bool, true, false}
+use mathlib.Core.Bool.{true, false}
 use Rattle.lattice.specs.declared.Sizes.{Sizes}
-use Rattle.lattice.specs.Axis.{Axis}
 use Rattle.lattice.specs.Counts.{points}
 use Rattle.moving.specs.declared.Label.{Label}
 use Rattle.moving.specs.declared.Label.the-variants.{Zero}

@@ -5,6 +5,7 @@ pub mod PatternLaws
 pub mod Ascending
 pub mod Complex
 pub mod Neighbour
+pub mod NeighbourTests
 pub mod NeighbourLaws
 pub mod Lattice
 pub mod Ids

@@ -1,13 +1,12 @@
 -- What the tests of the table of neighbours say. Assumes nothing.
-use Prim.Native.Nat.{ℕ, _+_, _<_}
-use native.Mathlib.Omega.{arith}
-use mathlib.Core.Path.{_≡_, refl, sym, _∙_, ap, subst}
+use Prim.Native.Nat.{_+_, _<_}
+use mathlib.Core.Path.{_≡_}
 use mathlib.Core.Logic.{_⊎_, inl, inr}
-use mathlib.Core.Bool.{Bool, not, _||_}
+use mathlib.Core.Bool.{not}
 use lib.Dec.{T, ltb, eqb, eqb→eq, lt→ltb, T-not}
-use Rattle.basics.proofs.Test.{_&_, and-l, and-r, and-i, imp, imp-use, or-cases, beq-use, eqb-of}
+use Rattle.basics.proofs.Test.{_&_, and-l, and-r, and-i, imp-use, or-cases, beq-use, eqb-of}
 use Rattle.basics.proofs.Finite.{each, each-use, each-i}
-use Rattle.basics.proofs.Tested.{Tested, tested, _⊗_, same, same-use, same-i}
+use Rattle.basics.proofs.Tested.{tested, _⊗_, same, same-use, same-i}
 use Rattle.lattice.specs.Axis.{Axis}
 use Rattle.lattice.specs.Counts.{along}
 use Rattle.lattice.proofs.Axes.{theAxes}
@@ -16,8 +15,9 @@ use Rattle.stencil.specs.Row.{Third, t0}
 use Rattle.stencil.proofs.Corners.{theVertices, theQuarters, theThirds}
 use Rattle.stencil.proofs.Sign.{winds}
 use Rattle.faces.proofs.Pattern.{outward}
-use Rattle.faces.proofs.Neighbour.{Neighbour, theKinds, Side, nextTo, sideOf, sideOffset, sideKind, meets, faces-back, sameSide, differs, asFar, meetOnly}
-use Rattle.faces.proofs.Neighbour.{lowRim, highRim, sameOffsets, sameTypes, meets-ok, faces-back-ok, differs-ok, meetOnly-ok, lowRim-ok, highRim-ok, sameTypes-ok}
+use Rattle.faces.proofs.Neighbour.{theKinds, Side, nextTo, sideOf, sideOffset, sideKind}
+use Rattle.faces.proofs.NeighbourTests.{meets, faces-back, sameSide, differs, asFar, meetOnly, lowRim, highRim, sameOffsets, sameTypes}
+use Rattle.faces.proofs.NeighbourTests.{meets-ok, faces-back-ok, differs-ok, meetOnly-ok, lowRim-ok, highRim-ok, sameTypes-ok}
 
 sameSide-use : (x y : Side) → T (sameSide x y) → x ≡ y
 unfolding sameSide

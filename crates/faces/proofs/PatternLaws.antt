@@ -3,23 +3,23 @@
 use Prim.Native.Nat.{ℕ, _≤_, _<_}
 use native.Mathlib.Omega.{arith}
 use native.Mathlib.Nat.{not-suc-le-zero}
-use mathlib.Core.Path.{_≡_, refl, sym, _∙_, ap, subst}
+use mathlib.Core.Path.{_≡_, refl, sym, subst}
 use mathlib.Core.Logic.{_⊎_, inl, inr}
 use mathlib.Core.Bool.{Bool, true, false, not, _||_}
 use mathlib.Core.List.{List, [], _∷_}
-use lib.Dec.{T, eqb, eqb→eq, leb→le, T-not, not-T}
+use lib.Dec.{T, eqb, eqb→eq, leb→le, T-not}
 use lib.ListN.{length}
 use Rattle.basics.specs.Choice.{if_then_else_}
 use Rattle.basics.specs.Lists.{below}
-use Rattle.basics.proofs.Test.{_&_, and-l, and-r, and-i, imp, imp-use, or-cases, decide, T-true, F-false, eqb-of, every, below-use, any, Member, here, there}
+use Rattle.basics.proofs.Test.{_&_, and-l, and-r, and-i, imp, imp-use, or-cases, decide, eqb-of, every, below-use, any, Member, here, there}
 use Rattle.basics.proofs.Finite.{each, each-use, each-i}
-use Rattle.basics.proofs.Tested.{tested, any-i, any-find, theBools, pairs, same, same-use, same-i, keep, keep-i, kept}
+use Rattle.basics.proofs.Tested.{tested, any-i, any-find, theBools, pairs, same, same-use, same-i, keep-i, kept}
 use Rattle.basics.proofs.Gather.{below-i, below-lt, member-length}
 use Rattle.moving.specs.declared.Label.{Label}
 use Rattle.moving.specs.declared.Label.the-variants.{Minus, Zero, Plus}
 use Rattle.moving.specs.Label.{isPlus, isZero}
 use Rattle.stencil.specs.Tetrahedron.{Vertex, v0, v1, v2, v3}
-use Rattle.stencil.specs.Row.{Row, row, Face, face, Third, rowAt, faceAt, faceOf, turned, exchanged, Opposite, Holds}
+use Rattle.stencil.specs.Row.{Row, Face, face, Third, rowAt, faceAt, faceOf, turned, Opposite, Holds}
 use Rattle.stencil.specs.Stencil.{Entry, between, rank}
 use Rattle.stencil.proofs.Corners.{theVertices, theThirds}
 use Rattle.faces.proofs.Pattern.{signedFor, rowIn, tip, side, onSide, shown, lift}

@@ -1,9 +1,9 @@
 -- What every face of every row of a pattern is like, as tests that are computed over all 81 patterns and both windings. Assumes nothing.
 use Prim.Native.Nat.{ℕ}
 use mathlib.Core.Bool.{Bool, true, false, not, _||_}
-use mathlib.Core.List.{List, [], _∷_, _++_, map}
-use lib.Dec.{T, eqb, leb}
-use lib.ListN.{length, getD}
+use mathlib.Core.List.{List, [], _∷_}
+use lib.Dec.{eqb, leb}
+use lib.ListN.{length}
 use Rattle.basics.specs.Choice.{if_then_else_}
 use Rattle.basics.specs.Lists.{from, below}
 use Rattle.basics.proofs.Test.{_&_, imp, every, any}
@@ -13,8 +13,8 @@ use Rattle.moving.specs.declared.Label.{Label}
 use Rattle.moving.specs.Label.{isPlus, isMinus, isZero}
 use Rattle.moving.proofs.Labels.{theLabels}
 use Rattle.stencil.specs.Tetrahedron.{Vertex, v0, v1, v2, v3}
-use Rattle.stencil.specs.Row.{Row, row, Face, face, Third, rowAt, faceAt, faceOf, turned, exchanged}
-use Rattle.stencil.specs.Stencil.{Entry, between, rank, point, cut, choose, stencilOf, patternOf, nth, rowsOf, rowsFor}
+use Rattle.stencil.specs.Row.{Row, Face, face, Third, rowAt, faceAt, faceOf, turned, exchanged}
+use Rattle.stencil.specs.Stencil.{Entry, between, rank, cut, choose, stencilOf, patternOf, rowsOf, rowsFor}
 use Rattle.stencil.proofs.Corners.{theVertices, theThirds}
 use Rattle.stencil.proofs.Sign.{newcomer, order, evenFirst, even, signed}
 use Rattle.faces.proofs.Pattern.{signedFor, rowIn, tip, side, base, onTriangle, onSide, shown, lift}

@@ -1,17 +1,17 @@
 -- The list of lattice tetrahedra holds each whose two cubes are in the block, no other, and none twice. Assumes nothing.
-use Prim.Native.Nat.{ℕ, _+_, _-_, _<_}
+use Prim.Native.Nat.{ℕ, _-_, _<_}
 use native.Mathlib.Omega.{arith}
 use native.Mathlib.Nat.{not-suc-le-zero}
 use mathlib.Core.Path.{_≡_, refl, sym, _∙_, ap, subst}
-use mathlib.Core.List.{List, [], _∷_}
-use Rattle.basics.specs.Lists.{gather, below}
+use mathlib.Core.List.{[], _∷_}
+use Rattle.basics.specs.Lists.{below}
 use Rattle.basics.proofs.Test.{_&_, Member, here, there}
 use Rattle.basics.proofs.Gather.{NoRepeats, empty, more, member-length, below-lt, below-i, below-once, distinct-once, gather-i, gather-part, gather-once}
 use Rattle.lattice.specs.declared.Sizes.{Sizes}
 use Rattle.lattice.specs.Axis.{Axis, along-x, along-y, along-z, xyz}
 use Rattle.lattice.specs.Counts.{size}
 use Rattle.lattice.proofs.Axes.{theAxes}
-use Rattle.stencil.specs.Tetrahedron.{Tetrahedron, Quarter, q0, q1, q2, q3, unit, axes, quarters, inTurn, inCube, inLine, inLayer, inAxis, tetrahedraOf}
+use Rattle.stencil.specs.Tetrahedron.{Tetrahedron, Quarter, unit, axes, quarters, inTurn, inCube, inLine, inLayer, inAxis, tetrahedraOf}
 use Rattle.stencil.proofs.Corners.{theQuarters}
 use Rattle.stencil.proofs.Valid.{Valid}
 
