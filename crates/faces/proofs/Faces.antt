@@ -51,7 +51,8 @@ module _ (s : Sizes) (label : ℕ → Label) where
   at-row : {k r : ℕ} {t : Tetrahedron} → At k t r → nthRow (signedRows s label) k ≡ idRow (lattice s label) t r
   unfolding signedRows signedIn signedFor rowIn
   at-row {r = r} {t = t} a =
-      found-get (signedIn s label) (row 0 0 0 0) a ∙ get-map (mapRow (idOf s t)) (cellRows (lattice s label) t) r noRow (row 0 0 0 0) (at-inside a)
+      found-get (signedIn s label) (row 0 0 0 0) a
+      ∙ get-map (mapRow (idOf s t)) (cellRows (lattice s label) t) r noRow (row 0 0 0 0) (at-inside a)
 
   at-of : (k : ℕ) → k < length (signedRows s label) → (t : Tetrahedron) × (r : ℕ) × At k t r
   unfolding signedRows
@@ -61,13 +62,15 @@ module _ (s : Sizes) (label : ℕ → Label) where
   at-one {j = j} a b e = found-once (signedIn s label) (listed-once s) (subst₂ (λ (x : Tetrahedron) (m : ℕ). At j x m) (e .0) (e .1) b) a
 
   -- a row that holds a face of the k-th
-  held : {k r m : ℕ} {t : Tetrahedron} (v : Vertex) → At k t r → (h : m < length (signedRows s label)) → Holds (nthRow (signedRows s label) m) (faceOf (nthRow (signedRows s label) k) v)
+  held : {k r m : ℕ} {t : Tetrahedron} (v : Vertex) → At k t r → (h : m < length (signedRows s label))
+      → Holds (nthRow (signedRows s label) m) (faceOf (nthRow (signedRows s label) k) v)
       → Held (lattice s label) (at-of m h .0) (at-of m h .1) (idFace (lattice s label) t r v)
   held {m = m} v a h p =
       let b = at-of m h .2 in
       record { cell = at-valid b; inside = at-inside b; holds = subst₂ (λ (x y : Row ℕ). Holds x (faceOf y v)) (at-row b) (at-row a) p }
 
-  fits-at : {k r : ℕ} {t : Tetrahedron} (v : Vertex) → At k t r → Fine (lattice s label) t r v → FaceFits (signedRows s label) (OnSkin s label) k v
+  fits-at : {k r : ℕ} {t : Tetrahedron} (v : Vertex) → At k t r → Fine (lattice s label) t r v
+      → FaceFits (signedRows s label) (OnSkin s label) k v
   unfolding signedRows
   fits-at {k = k} {r = r} {t = t} v a (two u n w hu hn ne o only) =
       shared (b .0) w (found-lt (signedIn s label) (b .1))
@@ -86,14 +89,16 @@ pub faces : (s : Sizes) (label : ℕ → Label) → NoRim s label → (i : ℕ) 
     → FaceFits (signedRows s label) (λ id. (points s ≤ id) ⊎ ((id < points s) × (label id ≡ Zero))) i v
 faces s label rim i h v =
     let a = at-of s label i h in
-    fits-at s label v (a .2) (every-face (lattice s label) (lattice-fits s label rim) (a .0) (at-valid s label (a .2)) (a .1) (at-inside s label (a .2)) v)
+    fits-at s label v (a .2)
+    (every-face (lattice s label) (lattice-fits s label rim) (a .0) (at-valid s label (a .2)) (a .1) (at-inside s label (a .2)) v)
 
 -- a row's four ids differ
 pub ids-differ : (s : Sizes) (label : ℕ → Label) (i : ℕ) → i < length (signedRows s label) → (v w : Vertex)
     → rowAt (nthRow (signedRows s label) i) v ≡ rowAt (nthRow (signedRows s label) i) w → v ≡ w
 ids-differ s label i h v w e =
     differ (winds (t .edge)) (labelsOf (lattice s label) t) (a .1) inside v w
-    (entry-inj (cornerNumber s t) (ascending s t valid) (entry v) (entry w) (id-inj s t t valid valid (entry v) (entry w) (order v) (order w) (sym (at v) ∙ e ∙ at w)))
+    (entry-inj (cornerNumber s t) (ascending s t valid) (entry v) (entry w)
+    (id-inj s t t valid valid (entry v) (entry w) (order v) (order w) (sym (at v) ∙ e ∙ at w)))
   where
     a : (t : Tetrahedron) × (r : ℕ) × At s label i t r
     a = at-of s label i h
