@@ -231,15 +231,15 @@ module _ (C : Complex) (F : Fits C) where
     fate-fine (inner m w hm ne o c only) =
         two i m w hi hm (λ _ d. ne d) (opposite-rows (C .id i) (rowIn (cellRows C i) r) (rowIn (cellRows C i) m) v w o)
         (λ k s h.
-          let d = own-cell i hi r hr v c k s h in
-          let p = locally i hi r hr v k s h d in
-          elim (only s (p .0) (p .1)) [ inl x ↦ inl (d, x) | inr x ↦ inr (d, x) ])
+        let d = own-cell i hi r hr v c k s h in
+        let p = locally i hi r hr v k s h d in
+        elim (only s (p .0) (p .1)) [ inl x ↦ inl (d, x) | inr x ↦ inr (d, x) ])
     fate-fine (free c a z) =
         one
         (λ k s h.
-          let d = own-cell i hi r hr v c k s h in
-          let p = locally i hi r hr v k s h d in
-          (d, a s (p .0) (p .1)))
+        let d = own-cell i hi r hr v c k s h in
+        let p = locally i hi r hr v k s h d in
+        (d, a s (p .0) (p .1)))
         (on-skin i hi r hr v z)
     fate-fine (on-side q n t hn e c a z) = side-fine i hi r hr v q n t hn e c a z (F .across i hi q)
 

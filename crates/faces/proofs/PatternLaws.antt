@@ -11,7 +11,7 @@ use lib.Dec.{T, eqb, eqb→eq, leb→le, T-not}
 use lib.ListN.{length}
 use Rattle.basics.specs.Choice.{if_then_else_}
 use Rattle.basics.specs.Lists.{below}
-use Rattle.basics.proofs.Test.{_&_, and-l, and-r, and-i, imp, imp-use, or-cases, decide, eqb-of, every, below-use, any, Member, here, there}
+use Rattle.basics.proofs.Test.{_&_, and-l, and-r, and-i, imp-use, or-cases, decide, eqb-of, below-use, any, Member, here, there}
 use Rattle.basics.proofs.Finite.{each, each-use, each-i}
 use Rattle.basics.proofs.Tested.{tested, any-i, any-find, theBools, pairs, same, same-use, same-i, keep-i, kept}
 use Rattle.basics.proofs.Gather.{below-i, below-lt, member-length}
@@ -192,7 +192,8 @@ module _ (s : Bool) (l : Vertex → Label) (r : ℕ) (v : Vertex) where
       t : T (fits s l the-face all-rows (others all-rows r the-face))
       t =
           each-use theVertices (fitsAt s l all-rows r)
-          (below-use (λ r. each theVertices (fitsAt s l all-rows r)) (length all-rows) (all-patterns (λ s l. fitting s l (signedFor s l)) fitting-ok s l) r h) v
+          (below-use (λ r. each theVertices (fitsAt s l all-rows r)) (length all-rows)
+          (all-patterns (λ s l. fitting s l (signedFor s l)) fitting-ok s l) r h) v
 
 -- with a plus among the labels, a face that three labels put on a side is a face of one row
 pub record Showing (s : Bool) (l : Vertex → Label) (q : Vertex) (n : ℕ) : Type 0 where
