@@ -1,5 +1,6 @@
 pub mod Axes
 pub mod Bounds
+pub mod Sized
 pub mod Number
 pub mod Codes
 pub mod Edge
