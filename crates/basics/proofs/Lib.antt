@@ -1,2 +1,4 @@
 pub mod Test
 pub mod Finite
+pub mod Tested
+pub mod Gather
