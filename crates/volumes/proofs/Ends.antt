@@ -55,6 +55,9 @@ positiveAt u v w = atCorners (λ x. atCorners (λ y. ahead (normal x y) w) v) u
 unfoldable pub armsAt : Axis → Quarter → Vertex → Face Vertex → Bool
 armsAt a e u (face x y z) = positiveAt (flat (arm a e u x)) (flat (arm a e u y)) (flat (arm a e u z))
 
-all-positive : T (each theAxes (λ a. each theQuarters (λ e. each theVertices (λ u. armsAt a e u (opposite (winds e) u)))))
+abbrev pub test : Axis → Quarter → Vertex → Bool
+test a e u = armsAt a e u (opposite (winds e) u)
+
+pub all-positive : T (each theAxes (λ a. each theQuarters (λ e. each theVertices (test a e))))
 unfolding _&_ arm normal along atCorners ahead positiveAt armsAt offset around unit
 all-positive = tt

@@ -1,3 +1,4 @@
 pub mod Sound
 pub mod Box
 pub mod Ends
+pub mod Keeps
