@@ -10,13 +10,11 @@ use lib.Signed.{ltZ, _<ℤ_, ltZ-yes}
 use Rattle.basics.proofs.Test.{every, every-use}
 use Rattle.basics.proofs.Finite.{each, each-use}
 use Rattle.basics.proofs.Integer.{nat, int, _⊕_, _⊖_, _⊗_, ring}
-use Rattle.lattice.specs.declared.Kind.{Kind}
-use Rattle.lattice.specs.declared.Kind.the-variants.{Corner, Centre}
 use Rattle.lattice.specs.Axis.{Axis, along-x, along-y, along-z}
 use Rattle.lattice.specs.Point.{doubled}
 use Rattle.lattice.specs.Direction.{step}
 use Rattle.lattice.proofs.Axes.{theAxes}
-use Rattle.stencil.specs.Tetrahedron.{Tetrahedron, Vertex, Quarter, kind, offset, corner}
+use Rattle.stencil.specs.Tetrahedron.{Tetrahedron, Vertex, kind, corner}
 use Rattle.stencil.specs.Row.{Face, face, Third, t0, t1, t2, turned}
 use Rattle.stencil.proofs.Corners.{theVertices, theQuarters}
 use Rattle.stencil.proofs.Sign.{winds}
@@ -25,6 +23,7 @@ use Rattle.geometry.specs.Volume.{difference, cross, dot, triple, sixVolume}
 use Rattle.geometry.proofs.Determinant.{turn}
 use Rattle.volumes.proofs.Sound.{Moved}
 use Rattle.volumes.proofs.Box.{Inner, ends, Extreme, shifted, move-inner, in-boxes}
+use Rattle.volumes.proofs.Between.{counted, counted-corner}
 use Rattle.volumes.proofs.Ends.{arm, opposite, Vector, vector, flat, normal, along, atCorners, ahead, positiveAt, armsAt, test, all-positive}
 
 -- what the computed test says
@@ -49,11 +48,6 @@ ends-use u v w t d e f p q r =
     (corners-use (λ y. ahead (normal (flat (shifted u d)) y) (flat w)) v
     (corners-use (λ x. atCorners (λ y. ahead (normal x y) (flat w)) (flat v)) u t d p) e q) f r))
 
--- the arm of a tetrahedron to a moved corner, seen from one at rest
-doubled-sum : (k : Kind) (i o : ℕ) → doubled k (i + o) ≡ 2 * i + doubled k o
-doubled-sum Corner i o = omega arith
-doubled-sum Centre i o = omega arith
-
 -- the six-volume of a corner and three others
 abbrev pub seenFrom : (Vertex → Place) → Vertex → Face Vertex → ℤ
 seenFrom P u (face x y z) = sixVolume (P u) (P x) (P y) (P z)
@@ -69,19 +63,14 @@ module _ (t : Tetrahedron) (P : Vertex → Place) (moved : (v : Vertex) → Move
   move v a = pos (moved v .t) *ℤ signed (step (moved v .c) a)
 
   module _ (u : Vertex) (rests : (a : Axis) → P u a ≡ latticePlace (kind u) (corner t u) a) where
+    -- the arm to a moved corner, seen from one at rest
     arm-moved : (v : Vertex) (a : Axis) → shifted (arm (t .axis) (t .edge) u v) (move v) a ≡ difference (P u) (P v) a
-    unfolding arm move latticePlace corner
+    unfolding arm move latticePlace
     arm-moved v a =
-        ring (nat 256 ⊗ (nat (doubled (kind v) (o v)) ⊖ nat (doubled (kind u) (o u))) ⊕ int (move v a))
-        (nat (256 * doubled (kind v) (i + o v)) ⊕ int (move v a) ⊖ nat (256 * doubled (kind u) (i + o u)))
-        (omega (arith, doubled-sum (kind v) i (o v), doubled-sum (kind u) i (o u)))
+        ring (nat 256 ⊗ (nat (counted t v a) ⊖ nat (counted t u a)) ⊕ int (move v a))
+        (nat (256 * doubled (kind v) (corner t v a)) ⊕ int (move v a) ⊖ nat (256 * doubled (kind u) (corner t u a)))
+        (omega (arith, counted-corner t v a, counted-corner t u a))
         ∙ (λ j. sym (moved v .is a) j -ℤ sym (rests a) j)
-      where
-        i : ℕ
-        i = t .cube a
-
-        o : Vertex → ℕ
-        o v = offset (t .axis) (t .edge) v a
 
     seen-positive : (f : Face Vertex) → T (armsAt (t .axis) (t .edge) u f) → pos 0 <ℤ seenFrom P u f
     unfolding armsAt sixVolume move
