@@ -5,3 +5,4 @@ pub mod Ends
 pub mod Between
 pub mod Keeps
 pub mod Mix
+pub mod Identity
