@@ -6,3 +6,4 @@ pub mod Between
 pub mod Keeps
 pub mod Mix
 pub mod Identity
+pub mod Volumes

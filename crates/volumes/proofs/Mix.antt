@@ -96,7 +96,7 @@ module _ {s : Sizes} {label : ℕ → Label} {byte : ℕ → ℕ} {place : ℕ �
       rests : (v : Vertex) → T (not (isZero (label (cornerNumber s t v)))) → (a : Axis) → place (cornerNumber s t v) a ≡ pos (256 * doubled (kind v) (corner t v a))
       rests v = Q .still (kind v) (corner t v) (corner-inside s t h v)
 
-  id-point : (u : Vertex) → idOf s t (between u u) ≡ cornerNumber s t u
+  pub id-point : (u : Vertex) → idOf s t (between u u) ≡ cornerNumber s t u
   unfolding idOf
   id-point u = rw (T-true (eqb (rank u) (rank u)) (eqb-refl (rank u)))
 
