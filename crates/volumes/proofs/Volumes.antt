@@ -4,14 +4,14 @@ use Prim.Native.Nat.{ℕ, zero, suc, _+_, _*_, _<_}
 use mathlib.Core.Path.{_≡_, refl, sym, _∙_, ap, subst}
 use mathlib.Core.Logic.{_⊎_, inl, inr}
 use mathlib.Core.Bool.{Bool, true, false, not, _||_, Bool·beq}
-use mathlib.Core.List.{List, [], _∷_, map}
+use mathlib.Core.List.{List, [], _∷_, map, map-map}
 use native.Mathlib.Omega.{arith}
-use lib.Dec.{T, ltb, eqb}
+use lib.Dec.{T, ltb, ltb→lt}
 use lib.ListN.{length, getD}
 use lib.IntN.{ℤ, pos, negsuc, _*ℤ_, negℤ}
 use lib.Signed.{ltZ, _<ℤ_, ltZ-yes}
 use Rattle.basics.specs.Choice.{if_then_else_}
-use Rattle.basics.proofs.Test.{_&_, and-l, and-r, or-cases, Member, here, there, any, any-use, every, every-use}
+use Rattle.basics.proofs.Test.{_&_, and-l, and-r, or-cases, F-false, Member, here, there, any, any-use, every, every-use}
 use Rattle.basics.proofs.Integer.{*ℤ-neg}
 use Rattle.lattice.specs.declared.Sizes.{Sizes}
 use Rattle.lattice.specs.Axis.{Axis}
@@ -66,6 +66,37 @@ wound-use s r w x y z t P =
 faced-volume : (b : Bool) (P : Vertex → Place) (w x y z : Vertex) → seenFrom P w (faced b (face x y z)) ≡ turnedBy b (sixVolume (P w) (P x) (P y) (P z))
 faced-volume true P w x y z = refl
 faced-volume false P w x y z = volume-swap (P w) (P x) (P y) (P z)
+
+-- the swap of the last two corners turns the six-volume, and the rule that decides it by the six-volume decides as the sign does
+swapped-volume : (place : ℕ → Place) (id : Entry Vertex → ℕ) (b : Bool) (r : Row (Entry Vertex))
+    → rowVolume place (mapRow id (if b then r else swapped r)) ≡ turnedBy b (rowVolume place (mapRow id r))
+unfolding rowVolume
+swapped-volume place id true r = refl
+swapped-volume place id false (row a b c d) = volume-swap (place (id a)) (place (id b)) (place (id c)) (place (id d))
+
+not-below : (z : ℤ) → pos 0 <ℤ z → ltZ z (pos 0) ≡ false
+not-below (pos n) h = F-false (ltb n 0) (λ t. absurd (omega (arith, ltb→lt n 0 t)))
+not-below (negsuc n) h = absurd (h .lt)
+
+below : (z : ℤ) → pos 0 <ℤ negℤ z → ltZ z (pos 0) ≡ true
+below (pos zero) h = absurd (h .lt)
+below (pos (suc n)) h = absurd (h .lt)
+below (negsuc n) h = refl
+
+oriented-by : (place : ℕ → Place) (id : Entry Vertex → ℕ) (b : Bool) (r : Row (Entry Vertex))
+    → pos 0 <ℤ turnedBy b (rowVolume place (mapRow id r)) → oriented place (mapRow id r) ≡ mapRow id (if b then r else swapped r)
+unfolding oriented
+oriented-by place id true r h = rw (not-below (rowVolume place (mapRow id r)) h)
+oriented-by place id false (row a b c d) h = rw (below (rowVolume place (mapRow id (row a b c d))) h)
+
+map-same : {A B : Type 0} (f g : A → B) (l : List A) → ((a : A) → Member a l → f a ≡ g a) → map f l ≡ map g l
+map-same f g [] h = refl
+map-same f g (x ∷ l) h = λ i. h x here i ∷ map-same f g l (λ a m. h a (there m)) i
+
+getD-member : {A : Type 0} (l : List A) (n : ℕ) (d : A) → n < length l → Member (getD l n d) l
+getD-member [] n d h = absurd (omega arith)
+getD-member (x ∷ l) zero d h = here
+getD-member (x ∷ l) (suc n) d h = there (getD-member l n d (omega arith))
 
 module _ {s : Sizes} {label : ℕ → Label} {byte : ℕ → ℕ} {place : ℕ → Place} (Q : Sound s label byte place) (t : Tetrahedron) (h : Valid s t) where
   abbrev labels : Vertex → Label
@@ -141,3 +172,26 @@ module _ {s : Sizes} {label : ℕ → Label} {byte : ℕ → ℕ} {place : ℕ �
       wound-by : (b : Bool) → T (woundOf true r w x y z & woundOf false r w x y z) → T (woundOf b r w x y z)
       wound-by true g = and-l _ _ g
       wound-by false g = and-r _ _ g
+
+  abbrev rows : List (Row (Entry Vertex))
+  rows = rowsFor labels
+
+  row-built : {r : Row (Entry Vertex)} → Member r rows → T (built labels r)
+  row-built m = every-use (built labels) rows (rows-are-built labels) m
+
+  -- "The last two corners change places exactly if the six-volume would be negative": as the sign of the type and of the pattern's row say
+  pub oriented-rows : map (oriented place) (map (mapRow (idOf s t)) rows) ≡ map (mapRow (idOf s t)) (map (signed (winds (t .edge))) rows)
+  unfolding signed
+  oriented-rows =
+      map-map (oriented place) (mapRow (idOf s t)) rows
+      ∙ map-same (λ r. oriented place (mapRow (idOf s t) r)) (λ r. mapRow (idOf s t) (signed (winds (t .edge)) r)) rows
+        (λ r m. oriented-by place (idOf s t) (Bool·beq (winds (t .edge)) (isEven r)) r (row-sign r (row-built m)))
+      ∙ sym (map-map (mapRow (idOf s t)) (signed (winds (t .edge))) rows)
+
+  -- every six-volume, as the rows are written, is above zero
+  pub positive : (n : ℕ) → n < length rows → (d : Row (Entry Vertex))
+      → pos 0 <ℤ rowVolume place (mapRow (idOf s t) (signed (winds (t .edge)) (getD rows n d)))
+  unfolding signed
+  positive n l d =
+      rw (swapped-volume place (idOf s t) (Bool·beq (winds (t .edge)) (isEven (getD rows n d))) (getD rows n d))
+      (row-sign (getD rows n d) (row-built (getD-member rows n d l)))
