@@ -7,7 +7,7 @@ use mathlib.Core.List.{List, [], _∷_}
 use native.Mathlib.Omega.{arith}
 use native.Mathlib.Nat.{mul-le-mul-right}
 use lib.Dec.{T, leb, leb→le}
-use lib.IntN.{ℤ, pos, negsuc, _+ℤ_, _-ℤ_, _*ℤ_, +ℤ-assoc, +ℤ-comm}
+use lib.IntN.{ℤ, pos, negℤ, _+ℤ_, _-ℤ_, _*ℤ_, +ℤ-assoc, +ℤ-comm}
 use lib.Signed.{_<ℤ_}
 use Rattle.basics.specs.Lists.{from}
 use Rattle.basics.proofs.Test.{_&_, and-l, and-r, Member, here, there}
@@ -27,12 +27,12 @@ abbrev pub half : ℕ
 half = 127
 
 abbrev pub ends : List ℤ
-ends = pos 127 ∷ negsuc 126 ∷ []
+ends = pos half ∷ negℤ (pos half) ∷ []
 
 -- d is not outside them: `over` above the lower one
 pub record Inner (d : ℤ) : Type 0 where
   pub over : ℕ
-  pub fits : over ≤ 254
+  pub fits : over ≤ half + half
   pub is : d ≡ pos over -ℤ pos half
 
 -- a corner of a box about the origin; a place moved by a vector
@@ -54,39 +54,41 @@ pub move-inner : (c t : ℕ) (a : Axis) → Code c → t ≤ reach c → Inner (
 unfolding short
 move-inner c t a code h =
     let s = each-use theAxes (short c) (eachCode-use (λ c. each theAxes (short c)) all-short c code) a in
-    let up : t * step c a .up ≤ half = omega (arith, mul-le-mul-right (step c a .up) h, leb→le (reach c * step c a .up) half (and-l _ _ s)) in
-    let down : t * step c a .down ≤ half = omega (arith, mul-le-mul-right (step c a .down) h, leb→le (reach c * step c a .down) half (and-r _ _ s)) in
+    let up = leb→le (reach c * step c a .up) half (and-l _ _ s) in
+    let down = leb→le (reach c * step c a .down) half (and-r _ _ s) in
+    let up′ : t * step c a .up ≤ half = omega (arith, mul-le-mul-right (step c a .up) h) in
+    let down′ : t * step c a .down ≤ half = omega (arith, mul-le-mul-right (step c a .down) h) in
     record {
       over = half + t * step c a .up - t * step c a .down;
       fits = omega arith;
       is =
           ring (nat t ⊗ (nat (step c a .up) ⊖ nat (step c a .down))) (nat (half + t * step c a .up - t * step c a .down) ⊖ nat half)
-          (omega arith)
+          (omega arith);
     }
 
 -- a function z ↦ z k + c that is positive at the ends of an interval is so between them
 inside : (f : ℤ → ℤ) (k c : ℤ) → ((z : ℤ) → f z ≡ z *ℤ k +ℤ c) → (l d : ℤ) → Inner d
     → ((e : ℤ) → Member e ends → pos 0 <ℤ f (l +ℤ e)) → pos 0 <ℤ f (l +ℤ d)
 inside f k c affine l d I h =
-    between-positive (f (l +ℤ pos half)) (f (l +ℤ negsuc 126)) (f (l +ℤ d)) m n (m + n) (omega arith) mixed (h (pos half) here)
-    (h (negsuc 126) (there here))
+    between-positive (f (l +ℤ pos half)) (f (l +ℤ negℤ (pos half))) (f (l +ℤ d)) m n (m + n) (omega arith) mixed (h (pos half) here)
+    (h (negℤ (pos half)) (there here))
   where
     m : ℕ
     m = I .over
 
     n : ℕ
-    n = 254 - m
+    n = half + half - m
 
-    side : m + n ≡ 254
+    side : m + n ≡ half + half
     side = omega (arith, I .fits)
 
-    mixed : pos (m + n) *ℤ f (l +ℤ d) ≡ pos m *ℤ f (l +ℤ pos half) +ℤ pos n *ℤ f (l +ℤ negsuc 126)
+    mixed : pos (m + n) *ℤ f (l +ℤ d) ≡ pos m *ℤ f (l +ℤ pos half) +ℤ pos n *ℤ f (l +ℤ negℤ (pos half))
     mixed =
         (λ i. pos (m + n) *ℤ f (l +ℤ I .is i)) ∙ ap (λ (z : ℤ). pos (m + n) *ℤ z) (affine (l +ℤ (pos m -ℤ pos half)))
         ∙ ring (nat (m + n) ⊗ ((int l ⊕ (nat m ⊖ nat half)) ⊗ int k ⊕ int c))
-          (nat m ⊗ ((int l ⊕ nat half) ⊗ int k ⊕ int c) ⊕ nat n ⊗ ((int l ⊕ int (negsuc 126)) ⊗ int k ⊕ int c))
-          (omega (arith, ap (λ (z : ℕ). m * z * above k) side, ap (λ (z : ℕ). m * z * beneath k) side))
-        ∙ (λ i. pos m *ℤ sym (affine (l +ℤ pos half)) i +ℤ pos n *ℤ sym (affine (l +ℤ negsuc 126)) i)
+        (nat m ⊗ ((int l ⊕ nat half) ⊗ int k ⊕ int c) ⊕ nat n ⊗ ((int l ⊕ int (negℤ (pos half))) ⊗ int k ⊕ int c))
+        (omega (arith, ap (λ (z : ℕ). m * z * above k) side, ap (λ (z : ℕ). m * z * beneath k) side))
+        ∙ (λ i. pos m *ℤ sym (affine (l +ℤ pos half)) i +ℤ pos n *ℤ sym (affine (l +ℤ negℤ (pos half))) i)
 
 -- one vector that ends in a box, axis by axis
 extreme : {i j m : ℤ} → Member i ends → Member j ends → Member m ends → Extreme (xyz i j m)

@@ -57,7 +57,8 @@ abbrev pub faced : {A : Type 0} → Bool → Face A → Face A
 faced true f = f
 faced false f = exchanged f
 
--- the three corners opposite u, outward where the four corners, ascending, wind positively (true) or do not
+-- the three corners opposite u, in the winding that gives them and u a positive six-volume, where the four corners, ascending, wind
+-- positively (true) or do not
 abbrev pub opposite : Bool → Vertex → Face Vertex
 opposite s u = faced s (faceOf (row v0 v1 v2 v3) u)
 

@@ -1,7 +1,6 @@
 -- The arms of a lattice tetrahedron from one of its corners, and a test that they wind positively when they end at corners of boxes.
 -- Vectors are three numbers side by side here, and the cross product of two is taken once for all ends of the third, for speed.
 -- Definitions only.
-use Prim.Native.Nat.{ℕ}
 use mathlib.Core.Bool.{Bool}
 use lib.IntN.{ℤ, pos, _+ℤ_, _-ℤ_, _*ℤ_}
 use lib.Signed.{ltZ}

@@ -1,6 +1,6 @@
 -- A lattice tetrahedron keeps its sign when its corners move within reach, as long as one of them rests: seen from that corner, the
 -- three others wind as the type says. Assumes nothing.
-use Prim.Native.Nat.{ℕ, _*_}
+use Prim.Native.Nat.{_*_}
 use mathlib.Core.Path.{_≡_, refl, sym, _∙_, subst}
 use mathlib.Core.Bool.{Bool}
 use native.Mathlib.Omega.{arith}

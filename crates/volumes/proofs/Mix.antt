@@ -7,7 +7,7 @@ use native.Mathlib.Omega.{arith}
 use lib.Dec.{T, ltb→lt, eqb→eq, eqb-refl}
 use lib.IntN.{ℤ, pos, _+ℤ_, _*ℤ_, +ℤ-comm}
 use Rattle.basics.specs.Choice.{if_then_else_}
-use Rattle.basics.proofs.Test.{_&_, and-l, and-r, or-cases, T-true, F-false}
+use Rattle.basics.proofs.Test.{and-l, and-r, or-cases, T-true, F-false}
 use Rattle.basics.proofs.Integer.{nat, int, _⊕_, _⊖_, _⊗_, ring}
 use Rattle.lattice.specs.declared.Sizes.{Sizes}
 use Rattle.lattice.specs.Axis.{Axis}
@@ -44,7 +44,7 @@ flip {A} {B} x =
       m-some = x .n-some;
       n-some = x .m-some;
       whole = omega (arith, x .whole);
-      is = λ a. x .is a ∙ +ℤ-comm (pos (x .m) *ℤ A a) (pos (x .n) *ℤ B a)
+      is = λ a. x .is a ∙ +ℤ-comm (pos (x .m) *ℤ A a) (pos (x .n) *ℤ B a);
     }
 
 -- a corner is a mix of itself and itself
@@ -56,7 +56,7 @@ itself A =
       m-some = omega arith;
       n-some = omega arith;
       whole = refl;
-      is = λ a. ring (nat 256 ⊗ int (A a)) (nat 128 ⊗ int (A a) ⊕ nat 128 ⊗ int (A a)) (omega arith)
+      is = λ a. ring (nat 256 ⊗ int (A a)) (nat 128 ⊗ int (A a) ⊕ nat 128 ⊗ int (A a)) (omega arith);
     }
 
 -- opposite labels are not zero, and are so either way round
@@ -105,9 +105,9 @@ module _ {s : Sizes} {label : ℕ → Label} {byte : ℕ → ℕ} {place : ℕ �
         is =
             λ a. ap (λ (z : ℤ). pos 256 *ℤ z) (Q .cut-places (kind u) (corner t u) d (corner-inside s t h u) small a)
             ∙ part (doubled (kind u) (corner t u a)) (doubled (kind v) (corner t v a)) (256 - b) b (direction d a)
-              (omega (arith, in-range .1)) (e a)
+            (omega (arith, in-range .1)) (e a)
             ∙ (λ i. pos (256 - b) *ℤ sym (rests u (opposed-solid _ _ o) a) i
-              +ℤ pos b *ℤ sym (rests v (opposed-solid _ _ (opposed-back _ _ o)) a) i)
+            +ℤ pos b *ℤ sym (rests v (opposed-solid _ _ (opposed-back _ _ o)) a) i);
       }
     where
       b : ℕ

@@ -6,7 +6,7 @@ use mathlib.Core.Logic.{inl, inr}
 use mathlib.Core.Bool.{Bool, true, false, not, Bool·beq}
 use mathlib.Core.List.{List, [], _∷_}
 use lib.Dec.{T}
-use lib.IntN.{ℤ, pos, _*ℤ_, negℤ}
+use lib.IntN.{ℤ, pos, negℤ}
 use lib.Signed.{_<ℤ_}
 use Rattle.basics.proofs.Test.{_&_, and-l, and-r, or-cases, Member, here, any, any-use, every-use}
 use Rattle.basics.proofs.Integer.{*ℤ-neg}
@@ -14,7 +14,7 @@ use Rattle.lattice.specs.declared.Sizes.{Sizes}
 use Rattle.moving.specs.declared.Label.{Label}
 use Rattle.moving.specs.Label.{isZero}
 use Rattle.stencil.specs.Tetrahedron.{Tetrahedron, Vertex, kind, corner, cornerNumber}
-use Rattle.stencil.specs.Row.{Row, row, Face, face, turned, mapRow}
+use Rattle.stencil.specs.Row.{Row, row, face, turned, mapRow}
 use Rattle.stencil.specs.Stencil.{Entry, between, rowsFor}
 use Rattle.stencil.specs.Id.{idOf}
 use Rattle.stencil.proofs.Corners.{theThirds}
@@ -25,7 +25,8 @@ use Rattle.geometry.specs.Volume.{sixVolume}
 use Rattle.geometry.proofs.Determinant.{volume-swap}
 use Rattle.filling.specs.Mesh.{rowVolume}
 use Rattle.volumes.proofs.Sound.{Sound}
-use Rattle.volumes.proofs.Built.{same, same-use, any-same, stands, hangs, fits, faced, opposite, coming, isEven, builtOf, sameFace, face-same, woundOf, built}
+use Rattle.volumes.proofs.Built.{same, same-use, any-same, stands, hangs, fits, builtOf, coming, built}
+use Rattle.volumes.proofs.Built.{faced, opposite, sameFace, face-same, isEven, woundOf}
 use Rattle.volumes.proofs.BuiltTest.{rows-built}
 use Rattle.volumes.proofs.Keeps.{seenFrom, turned-same, keeps}
 use Rattle.volumes.proofs.Mix.{Mix, flip, id-point, entry-mix}
@@ -71,9 +72,10 @@ module _ {s : Sizes} {label : ℕ → Label} {byte : ℕ → ℕ} {place : ℕ �
       → (o : Vertex) × Member o (y ∷ before) × Mix (at o) (at y) (place (idOf s t e))
   unfolding fits hangs
   fits-use (between u v) before y f =
-      elim (or-cases (same v y & any (same u) (y ∷ before)) _ (and-r (stands labels (between u v)) _ f))
-      [ inl p ↦ (u, any-same u (y ∷ before) (and-r _ _ p), subst (λ (z : Vertex). Mix (at u) (at z) E) (same-use v y (and-l _ _ p)) mix)
-      | inr p ↦ (v, any-same v (y ∷ before) (and-r _ _ p), subst (λ (z : Vertex). Mix (at v) (at z) E) (same-use u y (and-l _ _ p)) (flip mix)) ]
+      elim (or-cases (same v y & any (same u) (y ∷ before)) _ (and-r (stands labels (between u v)) _ f)) [
+        | inl p ↦ (u, any-same u (y ∷ before) (and-r _ _ p), subst (λ (z : Vertex). Mix (at u) (at z) E) (same-use v y (and-l _ _ p)) mix)
+        | inr p ↦ (v, any-same v (y ∷ before) (and-r _ _ p), subst (λ (z : Vertex). Mix (at v) (at z) E) (same-use u y (and-l _ _ p)) (flip mix))
+      ]
     where
       E : Place
       E = place (idOf s t (between u v))
@@ -84,9 +86,10 @@ module _ {s : Sizes} {label : ℕ → Label} {byte : ℕ → ℕ} {place : ℕ �
   first-use : (e : Entry Vertex) (w : Vertex) → T (fits labels [] w e) → place (idOf s t e) ≡ at w
   unfolding fits hangs
   first-use (between u v) w f =
-      elim (or-cases (same v w & any (same u) (w ∷ [])) _ (and-r (stands labels (between u v)) _ f))
-      [ inl p ↦ at-both (only (any-same u (w ∷ []) (and-r _ _ p))) (same-use v w (and-l _ _ p))
-      | inr p ↦ at-both (same-use u w (and-l _ _ p)) (only (any-same v (w ∷ []) (and-r _ _ p))) ]
+      elim (or-cases (same v w & any (same u) (w ∷ [])) _ (and-r (stands labels (between u v)) _ f)) [
+        | inl p ↦ at-both (only (any-same u (w ∷ []) (and-r _ _ p))) (same-use v w (and-l _ _ p))
+        | inr p ↦ at-both (same-use u w (and-l _ _ p)) (only (any-same v (w ∷ []) (and-r _ _ p)))
+      ]
     where
       at-both : u ≡ w → v ≡ w → place (idOf s t (between u v)) ≡ at w
       at-both p q = (λ i. place (idOf s t (between (p i) (q i)))) ∙ ap place (id-point Q t h w)

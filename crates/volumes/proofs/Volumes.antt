@@ -70,7 +70,7 @@ module _ {s : Sizes} {label : ℕ → Label} {byte : ℕ → ℕ} {place : ℕ �
   oriented-rows =
       map-map (oriented place) (mapRow (idOf s t)) rows
       ∙ map-same (λ r. oriented place (mapRow (idOf s t) r)) (λ r. mapRow (idOf s t) (signed (winds (t .edge)) r)) rows
-        (λ r m. oriented-by place (idOf s t) (Bool·beq (winds (t .edge)) (isEven r)) r (row-sign Q t h r m))
+      (λ r m. oriented-by place (idOf s t) (Bool·beq (winds (t .edge)) (isEven r)) r (row-sign Q t h r m))
       ∙ sym (map-map (mapRow (idOf s t)) (signed (winds (t .edge))) rows)
 
   -- "each row's volume, with points moved, is above zero"
