@@ -1,2 +1,3 @@
+pub mod Directions
 pub mod Axes
 pub mod Number
