@@ -1,3 +1,5 @@
 pub mod Directions
 pub mod Axes
 pub mod Number
+pub mod Codes
+pub mod Edge
