@@ -1,3 +1,5 @@
 pub mod Corners
+pub mod Turn
+pub mod Rows
 pub mod Sign
 pub mod Valid
