@@ -1,2 +1,6 @@
+pub mod Tables
 pub mod Given
 pub mod Cases
+pub mod Result
+pub mod Example
+pub mod Blocks

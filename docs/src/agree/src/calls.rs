@@ -1,0 +1,72 @@
+//! The calls: accepted ones of many shapes, and one or more for each refusal.
+
+use reference::block::Block;
+use reference::damage::{Call, Damage};
+use reference::generate::{block, Cutting, Mix};
+use reference::random::Random;
+
+/// All calls with a title each.
+pub fn all() -> Vec<(String, Call)> {
+    let mut list: Vec<(String, Call)> = ACCEPTED.iter().map(accepted).collect();
+    list.extend(REFUSED.iter().map(refused));
+    list
+}
+
+/// Sizes, labels, cut bytes, seed.
+type Shape = ([u32; 3], Mix, Cutting, u64);
+
+const ACCEPTED: [Shape; 19] = [
+    ([1, 1, 1], Mix::Even, Cutting::Limits, 1),
+    ([2, 1, 1], Mix::Zeros, Cutting::Limits, 2),
+    ([1, 2, 2], Mix::Even, Cutting::Wild, 3),
+    ([2, 2, 2], Mix::Dense, Cutting::Calm, 4),
+    ([2, 2, 2], Mix::Dense, Cutting::Limits, 5),
+    ([2, 2, 2], Mix::Dense, Cutting::Limits, 6),
+    ([2, 2, 2], Mix::Dense, Cutting::Wild, 7),
+    ([2, 2, 2], Mix::Dense, Cutting::Wild, 8),
+    ([2, 2, 2], Mix::Checker, Cutting::Limits, 9),
+    ([2, 2, 2], Mix::Checker, Cutting::Wild, 10),
+    ([3, 2, 2], Mix::Dense, Cutting::Limits, 11),
+    ([2, 3, 2], Mix::Dense, Cutting::Wild, 12),
+    ([2, 2, 3], Mix::Dense, Cutting::Limits, 13),
+    ([3, 3, 2], Mix::Even, Cutting::Limits, 14),
+    ([2, 3, 3], Mix::Checker, Cutting::Calm, 15),
+    ([3, 3, 3], Mix::Dense, Cutting::Calm, 16),
+    ([3, 3, 3], Mix::Even, Cutting::Limits, 17),
+    ([3, 3, 3], Mix::Checker, Cutting::Wild, 18),
+    ([3, 3, 3], Mix::Zeros, Cutting::Limits, 19),
+];
+
+fn accepted(&(sizes, mix, cutting, seed): &Shape) -> (String, Call) {
+    let block = block(&mut Random::new(seed), sizes, mix, cutting);
+    let [nx, ny, nz] = sizes;
+    let title = format!("{nx} by {ny} by {nz}, labels {mix:?}, cut bytes {cutting:?}");
+    (title, Call::good(block, 3))
+}
+
+/// Damages done to the given case one after the other, and a seed.
+const REFUSED: [(&[Damage], u64); 12] = [
+    (&[Damage::Size], 1),
+    (&[Damage::Samples], 2),
+    (&[Damage::Cuts], 3),
+    (&[Damage::State], 4),
+    (&[Damage::Rim], 5),
+    (&[Damage::Gap], 6),
+    (&[Damage::Stray], 7),
+    (&[Damage::Table], 8),
+    (&[Damage::Samples, Damage::Cuts], 9),
+    (&[Damage::Rim, Damage::Stray], 10),
+    (&[Damage::Gap, Damage::Stray], 11),
+    (&[Damage::Stray, Damage::Table], 12),
+];
+
+fn refused(&(damages, seed): &(&[Damage], u64)) -> (String, Call) {
+    let block = Block::given_case();
+    let lattice = block.lattice().expect("allowed sizes");
+    let mut call = Call::good(block, 0);
+    for &damage in damages {
+        assert!(call.damage(&mut Random::new(seed), &lattice, damage));
+    }
+    let words: Vec<String> = damages.iter().map(|damage| format!("{damage:?}")).collect();
+    (format!("the given case with a fault: {}", words.join(" and ")), call)
+}
