@@ -15,26 +15,27 @@ pub fn all() -> Vec<(String, Call)> {
 /// Sizes, labels, cut bytes, seed.
 type Shape = ([u32; 3], Mix, Cutting, u64);
 
-const ACCEPTED: [Shape; 19] = [
+/// The seeds were searched for blocks with rows and moved points at once, and
+/// with many patterns and codes.
+const ACCEPTED: [Shape; 18] = [
     ([1, 1, 1], Mix::Even, Cutting::Limits, 1),
     ([2, 1, 1], Mix::Zeros, Cutting::Limits, 2),
     ([1, 2, 2], Mix::Even, Cutting::Wild, 3),
-    ([2, 2, 2], Mix::Dense, Cutting::Calm, 4),
     ([2, 2, 2], Mix::Dense, Cutting::Limits, 5),
-    ([2, 2, 2], Mix::Dense, Cutting::Limits, 6),
-    ([2, 2, 2], Mix::Dense, Cutting::Wild, 7),
-    ([2, 2, 2], Mix::Dense, Cutting::Wild, 8),
-    ([2, 2, 2], Mix::Checker, Cutting::Limits, 9),
-    ([2, 2, 2], Mix::Checker, Cutting::Wild, 10),
-    ([3, 2, 2], Mix::Dense, Cutting::Limits, 11),
-    ([2, 3, 2], Mix::Dense, Cutting::Wild, 12),
-    ([2, 2, 3], Mix::Dense, Cutting::Limits, 13),
-    ([3, 3, 2], Mix::Even, Cutting::Limits, 14),
-    ([2, 3, 3], Mix::Checker, Cutting::Calm, 15),
-    ([3, 3, 3], Mix::Dense, Cutting::Calm, 16),
-    ([3, 3, 3], Mix::Even, Cutting::Limits, 17),
-    ([3, 3, 3], Mix::Checker, Cutting::Wild, 18),
-    ([3, 3, 3], Mix::Zeros, Cutting::Limits, 19),
+    ([2, 2, 2], Mix::Dense, Cutting::Calm, 65),
+    ([2, 2, 2], Mix::Dense, Cutting::Limits, 84),
+    ([2, 2, 2], Mix::Sparse, Cutting::Limits, 190),
+    ([2, 2, 2], Mix::Even, Cutting::Wild, 313),
+    ([2, 2, 2], Mix::Checker, Cutting::Wild, 119),
+    ([3, 2, 2], Mix::Ribs, Cutting::Limits, 311),
+    ([2, 3, 2], Mix::Dense, Cutting::Limits, 248),
+    ([2, 2, 3], Mix::Checker, Cutting::Wild, 295),
+    ([3, 3, 2], Mix::Ball, Cutting::Calm, 340),
+    ([2, 3, 3], Mix::Checker, Cutting::Wild, 71),
+    ([3, 3, 3], Mix::Dense, Cutting::Calm, 32),
+    ([3, 3, 3], Mix::Ribs, Cutting::Calm, 31),
+    ([3, 3, 3], Mix::Ball, Cutting::Limits, 350),
+    ([3, 3, 3], Mix::Zeros, Cutting::Wild, 0),
 ];
 
 fn accepted(&(sizes, mix, cutting, seed): &Shape) -> (String, Call) {
