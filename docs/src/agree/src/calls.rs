@@ -17,7 +17,7 @@ type Shape = ([u32; 3], Mix, Cutting, u64);
 
 /// The seeds were searched for blocks with rows and moved points at once, and
 /// with many patterns and codes.
-const ACCEPTED: [Shape; 18] = [
+const ACCEPTED: [Shape; 17] = [
     ([1, 1, 1], Mix::Even, Cutting::Limits, 1),
     ([2, 1, 1], Mix::Zeros, Cutting::Limits, 2),
     ([1, 2, 2], Mix::Even, Cutting::Wild, 3),
@@ -32,10 +32,9 @@ const ACCEPTED: [Shape; 18] = [
     ([2, 2, 3], Mix::Checker, Cutting::Wild, 295),
     ([3, 3, 2], Mix::Ball, Cutting::Calm, 340),
     ([2, 3, 3], Mix::Checker, Cutting::Wild, 71),
-    ([3, 3, 3], Mix::Dense, Cutting::Calm, 32),
-    ([3, 3, 3], Mix::Ribs, Cutting::Calm, 31),
     ([3, 3, 3], Mix::Ball, Cutting::Limits, 350),
-    ([3, 3, 3], Mix::Zeros, Cutting::Wild, 0),
+    ([3, 3, 3], Mix::Ball, Cutting::Calm, 1057),
+    ([3, 4, 3], Mix::Even, Cutting::Calm, 550),
 ];
 
 fn accepted(&(sizes, mix, cutting, seed): &Shape) -> (String, Call) {
