@@ -1,5 +1,7 @@
--- Every definition that filling and the place call rest on, opened by one name: a computed fact says `unfolding definitions`. Assumes nothing.
+-- Every definition that filling and the place call rest on, opened by one name: a computed fact says `unfolding definitions`.
+-- Assumes nothing.
 use Rattle.basics.specs.Lists.{gather, from, firstFrom, count}
+use Rattle.basics.specs.Table.{tableOf}
 use Rattle.lattice.specs.Counts.{sizesFit, cells, points, tetrahedra}
 use Rattle.lattice.specs.Point.{linear, cell, kindOf}
 use Rattle.lattice.specs.Direction.{directions, direction, long, isStart, directionOf, step}
@@ -19,5 +21,14 @@ use Rattle.filling.specs.Fill.{movedCount, overwritten, written, fill}
 use Rattle.filling.specs.Located.{reaches, believable, standsTo, stands, idFault, locate}
 
 unfoldable pub definitions : Unit {0}
-unfolding gather from firstFrom count sizesFit cells points tetrahedra linear cell kindOf directions direction long isStart directionOf step staysIn farKind farIndex near edgeByte outermost rimAt labelOf isPlus isZero isMinus opposed limit measured violates labelAfter live violatedAlong choice codes unit around offset corner cornerNumber inTurn inCube inLine inLayer inAxis tetrahedraOf cut choose patternOf stencilOf rowsOf rowsFor leadsTo codeBetween idOf latticePlace cutPlace movedPlace pointPlace placeOf cross dot triple sixVolume rowVolume oriented rowsIn rowsWith rimFault crossesTo cutFault movedCount overwritten written fill reaches believable standsTo stands idFault locate
+unfolding
+    gather from firstFrom count tableOf
+    sizesFit cells points tetrahedra linear cell kindOf directions direction long isStart directionOf step
+    staysIn farKind farIndex near edgeByte outermost rimAt
+    labelOf isPlus isZero isMinus opposed limit measured violates labelAfter live violatedAlong choice codes
+    unit around offset corner cornerNumber inTurn inCube inLine inLayer inAxis tetrahedraOf
+    cut choose patternOf stencilOf rowsOf rowsFor leadsTo codeBetween idOf
+    latticePlace cutPlace movedPlace pointPlace placeOf cross dot triple sixVolume
+    rowVolume oriented rowsIn rowsWith rimFault crossesTo cutFault movedCount overwritten written fill
+    reaches believable standsTo stands idFault locate
 definitions = tt

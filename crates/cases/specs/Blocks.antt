@@ -1,8 +1,9 @@
 -- Blocks that separate software filled too, with all that it answered and wrote. Written by docs/src/agree from the reference in
--- docs/src/reference; the theorem is `agrees` in proofs/Agree.antt.
+-- docs/src/reference, which says how labels and cut bytes are mixed (generate.rs); the theorem is `agrees` in proofs/Agree.antt.
 use mathlib.Core.List.{List, [], _∷_}
 use lib.IntN.{pos}
-use Rattle.cases.specs.Tables.{_:=_, as-lent, codes}
+use Rattle.basics.specs.Table.{_:=_}
+use Rattle.cases.specs.Lent.{as-lent, codes}
 use Rattle.cases.specs.Example.{Example, neg, ask}
 
 -- 1 by 1 by 1, labels Even, cut bytes Limits

@@ -3,10 +3,11 @@
 use Prim.Native.Nat.{ℕ}
 use mathlib.Core.List.{List, [], _∷_}
 use lib.IntN.{ℤ, pos}
+use Rattle.basics.specs.Table.{_:=_}
 use Rattle.stencil.specs.Row.{Row, row}
 use Rattle.filling.specs.declared.Filled.{Filled}
 use Rattle.filling.specs.declared.Placed.{Placed}
-use Rattle.cases.specs.Tables.{_:=_, State, as-lent, codes}
+use Rattle.cases.specs.Lent.{State, as-lent, codes}
 use Rattle.cases.specs.Given.{Change, unchanged, byte-at, sample-at}
 
 -- what a case says besides the answer and the tables: how many points and lattice tetrahedra there are, the first row as written with its

@@ -3,13 +3,14 @@ use Prim.Native.Nat.{ℕ, _-_}
 use mathlib.Core.List.{List, [], _∷_, _++_, map}
 use lib.IntN.{ℤ, pos, negℤ}
 use lib.ListN.{length}
+use Rattle.basics.specs.Table.{Entry, entered, tableOf}
 use Rattle.lattice.specs.declared.Sizes.{Sizes}
-use Rattle.moving.specs.Block.{Block}
+use Rattle.moving.specs.Block.{Block, blockOf}
 use Rattle.filling.specs.declared.Filled.{Filled}
 use Rattle.filling.specs.declared.Placed.{Placed}
 use Rattle.filling.specs.Fill.{Outcome, fill}
 use Rattle.filling.specs.Located.{locate}
-use Rattle.cases.specs.Tables.{Entry, entered, tableOf, lentState, lentRows, State, stateTable}
+use Rattle.cases.specs.Lent.{lentState, lentRows, State, stateTable}
 
 abbrev pub neg : ℕ → ℤ
 neg n = negℤ (pos n)
@@ -41,8 +42,8 @@ pub record Result : Type 0 where
   pub outcome : Outcome
   pub places : List Placed
 
-unfoldable pub blockOf : Example → Block
-blockOf e = record { sizes = e .sizes; samples = e .samples; cuts = tableOf (e .cutsLength) (e .cuts) }
+unfoldable pub blockIn : Example → Block
+blockIn e = blockOf (e .sizes) (e .samples) (tableOf (e .cutsLength) (e .cuts))
 
 -- by the separate software
 unfoldable pub recorded : Example → Result
@@ -66,5 +67,5 @@ answered b o qs = record { outcome = o; places = map (asked b (o .state)) qs }
 
 unfoldable pub defined : Example → Result
 defined e =
-    let b = blockOf e in
+    let b = blockIn e in
     answered b (fill b (lentState (e .stateLength)) (lentRows (e .rowsLength))) (e .questions)

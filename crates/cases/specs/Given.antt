@@ -5,7 +5,7 @@ use lib.IntN.{ℤ, pos, negℤ}
 use lib.ListN.{replicate, set}
 use Rattle.lattice.specs.declared.Sizes.{Sizes}
 use Rattle.lattice.specs.Counts.{points}
-use Rattle.moving.specs.Block.{Block}
+use Rattle.moving.specs.Block.{Block, blockOf}
 
 -- a run of the cut table: its offset and its length
 pub data Run : Type 0 where
@@ -43,6 +43,6 @@ pub data Change : Type 0 where
   sample-at : ℕ → ℤ → Change
 
 unfoldable pub changed : Change → Block
-changed unchanged = record { sizes = givenSizes; samples = givenSamples; cuts = givenCuts }
-changed (byte-at o t) = record { sizes = givenSizes; samples = givenSamples; cuts = set givenCuts o t }
-changed (sample-at p z) = record { sizes = givenSizes; samples = set givenSamples p z; cuts = givenCuts }
+changed unchanged = blockOf givenSizes givenSamples givenCuts
+changed (byte-at o t) = blockOf givenSizes givenSamples (set givenCuts o t)
+changed (sample-at p z) = blockOf givenSizes (set givenSamples p z) givenCuts

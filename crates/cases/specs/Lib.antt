@@ -1,4 +1,4 @@
-pub mod Tables
+pub mod Lent
 pub mod Given
 pub mod Cases
 pub mod Result

@@ -12,7 +12,7 @@ use Rattle.filling.specs.declared.Filled.{Filled}
 use Rattle.filling.specs.Mesh.{rowVolume}
 use Rattle.filling.specs.Fill.{Outcome, fill}
 use Rattle.filling.specs.Located.{locate}
-use Rattle.cases.specs.Tables.{lentState, lentRows, stateTable}
+use Rattle.cases.specs.Lent.{lentState, lentRows, stateTable}
 use Rattle.cases.specs.Given.{givenSizes, changed}
 use Rattle.cases.specs.Cases.{Case, Claim, counts, first-row, place-of}
 

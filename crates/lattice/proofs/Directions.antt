@@ -23,5 +23,7 @@ bytesOf s p = gather (λ c. bytesTo p c (neighbour s p c)) (from 1 14)
 
 pub directions-fit :
     bytesOf (record { nx = 2; ny = 2; nz = 2 }) 13 ≡ from 91 7 ++ (84 ∷ 71 ∷ 30 ∷ 192 ∷ 200 ∷ 208 ∷ 216 ∷ [])
-unfolding bytesOf bytesTo gather from near edgeByte staysIn farKind farIndex directions direction long isStart directionOf step kindOf cells cell linear
+unfolding
+    bytesOf bytesTo gather from near edgeByte staysIn farKind farIndex directions direction long isStart directionOf step
+    kindOf cells cell linear
 directions-fit = refl

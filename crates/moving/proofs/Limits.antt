@@ -1,4 +1,5 @@
--- The cut bytes that violate an end, listed for each of the fourteen codes: the limits of P2 to P9 of document 01, on every edge. Assumes nothing.
+-- The cut bytes that violate an end, listed for each of the fourteen codes: the limits of P2 to P9 of document 01, on every edge.
+-- Assumes nothing.
 use Prim.Native.Nat.{ℕ}
 use mathlib.Core.Path.{_≡_, refl}
 use mathlib.Core.List.{List, [], _∷_, _++_, map}

@@ -81,7 +81,9 @@ module _ (f : (Vertex → Label) → Bool) where
       for-c = each-use theLabels (λ c. each theLabels (of a b c)) for-b c
 
 sides : T (everyPattern (λ l. each theVertices (splitsAlike l)))
-unfolding _&_ gather others aside among entryNumber faceNumber entryOn faceOn facesOn alike splitsAlike isPlus isMinus isZero cut choose patternOf stencilOf rowsOf rowsFor
+unfolding
+    _&_ gather others aside among entryNumber faceNumber entryOn faceOn facesOn alike splitsAlike
+    isPlus isMinus isZero cut choose patternOf stencilOf rowsOf rowsFor
 sides = tt
 
 empty : T (everyPattern emptyWithoutPlus)
