@@ -1,8 +1,5 @@
-pub mod Test
 pub mod Finite
-<<<<<<< HEAD
-pub mod Tested
 pub mod Gather
-=======
 pub mod Integer
->>>>>>> helper-b
+pub mod Test
+pub mod Tested

@@ -1,3 +1,4 @@
+pub mod Directions
 pub mod Axes
 pub mod Bounds
 pub mod Sized

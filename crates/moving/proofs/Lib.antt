@@ -1,1 +1,3 @@
+pub mod Limits
+pub mod OneCube
 pub mod Labels
