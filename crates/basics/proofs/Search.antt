@@ -1,13 +1,13 @@
 -- What a search below a bound finds, and what counting counts. Assumes nothing.
-use Prim.Native.Nat.{ℕ, zero, suc, _+_, _-_, _≤_, _<_}
+use Prim.Native.Nat.{ℕ, zero, suc, _+_, _≤_, _<_}
 use native.Mathlib.Omega.{arith}
-use mathlib.Core.Path.{_≡_, refl, sym, ap, _∙_}
-use mathlib.Core.Logic.{_⊎_, inl, inr}
+use mathlib.Core.Path.{_≡_, refl, ap, _∙_}
+use mathlib.Core.Logic.{inl, inr}
 use mathlib.Core.Bool.{Bool, true, false}
 use lib.Dec.{T}
 use Rattle.basics.specs.Choice.{if_then_else_}
 use Rattle.basics.specs.Lists.{firstFrom, lowest, count}
-use Rattle.basics.proofs.Test.{true-T, false-F, F-false, lt-or}
+use Rattle.basics.proofs.Test.{true-T, false-F, lt-or}
 
 -- r is the first of the n numbers from k on that passes, or the number after them
 pub record First (f : ℕ → Bool) (n k r : ℕ) : Type 0 where

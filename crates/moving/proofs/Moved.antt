@@ -1,11 +1,11 @@
 -- What moving leaves behind: one code a point, found from the moves before its turn; labels only ever go to zero; and at the end no live cut
 -- violates either of its ends. Assumes nothing.
-use Prim.Native.Nat.{ℕ, zero, suc, _+_, _≤_, _<_}
+use Prim.Native.Nat.{ℕ, zero, suc, _≤_, _<_}
 use native.Mathlib.Omega.{arith}
 use mathlib.Core.Path.{_≡_, refl, sym, ap, _∙_, subst}
 use mathlib.Core.Logic.{_⊎_, inl, inr}
 use mathlib.Core.Bool.{Bool, true, false, not, _&&_}
-use mathlib.Core.List.{List, [], _∷_, _++_}
+use mathlib.Core.List.{List, []}
 use lib.IntN.{ℤ, pos, negsuc}
 use lib.Dec.{T, ltb, eqb}
 use lib.ListN.{length, getD, length-append, List·getD-append, List·getD-eq-default}
@@ -15,13 +15,12 @@ use Rattle.basics.specs.Choice.{if_then_else_}
 use Rattle.basics.specs.Lists.{firstFrom}
 use Rattle.basics.proofs.Test.{&&-l, &&-r, &&-i, lt-or}
 use Rattle.basics.proofs.Search.{First, first-found}
-use Rattle.lattice.specs.declared.Near.{Near}
-use Rattle.lattice.specs.declared.Near.the-variants.{At, Nothing}
+use Rattle.lattice.specs.declared.Near.the-variants.{At}
 use Rattle.lattice.specs.Counts.{points}
 use Rattle.lattice.specs.Direction.{Code}
 use Rattle.lattice.specs.Edge.{neighbour, edgeByte}
 use Rattle.moving.specs.declared.Label.{Label}
-use Rattle.moving.specs.declared.Label.the-variants.{Minus, Zero, Plus}
+use Rattle.moving.specs.declared.Label.the-variants.{Zero, Plus}
 use Rattle.moving.specs.Block.{Block, sample, cutByte}
 use Rattle.moving.specs.Label.{labelOf, isZero}
 use Rattle.moving.specs.Violation.{violates}
