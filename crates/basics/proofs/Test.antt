@@ -131,7 +131,7 @@ from-step a n k l rec false e = there (rec (omega (arith, ne)))
     ne : a ≡ k → ⊥
     ne p = false-F (eqb a k) e (eqb-of a k p)
 
-from-member : (a n k : ℕ) → a ≤ k → k < a + n → Member k (from a n)
+pub from-member : (a n k : ℕ) → a ≤ k → k < a + n → Member k (from a n)
 unfolding from
 from-member a zero k l h = absurd (omega arith)
 from-member a (suc n) k l h = from-step a n k l (λ m. from-member (suc a) n k m (omega arith)) (eqb a k) refl

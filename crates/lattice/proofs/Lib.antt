@@ -1,2 +1,4 @@
 pub mod Axes
 pub mod Number
+pub mod Codes
+pub mod Edge
