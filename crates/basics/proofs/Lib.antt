@@ -1,3 +1,4 @@
 pub mod Test
 pub mod Finite
+pub mod Integer
 pub mod Search
