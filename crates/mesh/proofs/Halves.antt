@@ -1,0 +1,70 @@
+-- temporary: the statements of the two halves
+use Prim.Native.Nat.{ℕ, _+_, _*_, _≤_, _<_}
+use mathlib.Core.Path.{_≡_}
+use mathlib.Core.Logic.{_⊎_}
+use mathlib.Core.Bool.{Bool, not}
+use mathlib.Core.List.{List, map}
+use lib.IntN.{ℤ, pos, _+ℤ_, _*ℤ_}
+use lib.Signed.{_<ℤ_}
+use lib.Dec.{T}
+use lib.ListN.{length, getD}
+use Rattle.basics.specs.Choice.{if_then_else_}
+use Rattle.basics.specs.Lists.{gather}
+use Rattle.lattice.specs.declared.Sizes.{Sizes}
+use Rattle.lattice.specs.declared.Kind.{Kind}
+use Rattle.lattice.specs.Axis.{Axis}
+use Rattle.lattice.specs.Counts.{points}
+use Rattle.lattice.specs.Point.{doubled, Inside, number}
+use Rattle.lattice.specs.Direction.{long, Code, directionOf, direction, step}
+use Rattle.lattice.specs.Edge.{byteAt}
+use Rattle.lattice.specs.Rim.{rimAt}
+use Rattle.moving.specs.declared.Label.{Label}
+use Rattle.moving.specs.declared.Label.the-variants.{Zero, Plus}
+use Rattle.moving.specs.Label.{isZero, opposed}
+use Rattle.stencil.specs.Tetrahedron.{Tetrahedron, Vertex, cornerNumber, tetrahedraOf}
+use Rattle.stencil.specs.Row.{Row, row, mapRow}
+use Rattle.stencil.specs.Stencil.{Entry, rowsFor, between}
+use Rattle.stencil.specs.Id.{idOf, cutId}
+use Rattle.stencil.proofs.Sign.{signed as signedRow, winds}
+use Rattle.stencil.proofs.Valid.{Valid}
+use Rattle.geometry.specs.Place.{Place, latticePlace, signed}
+use Rattle.filling.specs.Mesh.{rowVolume, oriented}
+use Rattle.filling.specs.Demand.{FaceFits}
+
+unfoldable pub reach : ℕ → ℕ
+reach c = if long (directionOf c) then 63 else 127
+
+pub record Moved (k : Kind) (i : Axis → ℕ) (p : Place) : Type 0 where
+  pub c : ℕ
+  pub code : Code c
+  pub t : ℕ
+  pub within : t ≤ reach c
+  pub is : (a : Axis) → p a ≡ latticePlace k i a +ℤ pos t *ℤ signed (step c a)
+
+pub record Sound (s : Sizes) (label : ℕ → Label) (byte : ℕ → ℕ) (place : ℕ → Place) : Type 0 where
+  pub moves : (k : Kind) (i : Axis → ℕ) → Inside s k i → Moved k i (place (number s k i))
+  pub still : (k : Kind) (i : Axis → ℕ) → Inside s k i → T (not (isZero (label (number s k i)))) → (a : Axis) → place (number s k i) a ≡ latticePlace k i a
+  pub bytes : (k l : Kind) (i j : Axis → ℕ) (d : ℕ) → Inside s k i → Inside s l j → d < 7 → ((a : Axis) → doubled l (j a) + direction d a .down ≡ doubled k (i a) + direction d a .up) → T (opposed (label (number s k i)) (label (number s l j))) → (0 < byte (byteAt (number s k i) d)) × (byte (byteAt (number s k i) d) < 256)
+  pub cut-places : (k : Kind) (i : Axis → ℕ) (d : ℕ) → Inside s k i → d < 7 → (a : Axis) → place (cutId s (number s k i) d) a ≡ latticePlace k i a +ℤ pos (byte (byteAt (number s k i) d)) *ℤ signed (direction d a)
+
+abbrev pub NoRim : Sizes → (ℕ → Label) → Type 0
+NoRim s label = (k : Kind) (i : Axis → ℕ) → Inside s k i → T (rimAt s k i) → label (number s k i) ≡ Plus → ⊥
+
+unfoldable pub signedIn : Sizes → (ℕ → Label) → Tetrahedron → List (Row ℕ)
+signedIn s label t = map (mapRow (idOf s t)) (map (signedRow (winds (t .edge))) (rowsFor (λ v. label (cornerNumber s t v))))
+
+unfoldable pub signedRows : Sizes → (ℕ → Label) → List (Row ℕ)
+signedRows s label = gather (signedIn s label) (tetrahedraOf s)
+
+pub faces : (s : Sizes) (label : ℕ → Label) → NoRim s label → (i : ℕ) → i < length (signedRows s label) → (v : Vertex) → FaceFits (signedRows s label) (λ id. (points s ≤ id) ⊎ ((id < points s) × (label id ≡ Zero))) i v
+faces s label h i l v = ?
+
+module _ (s : Sizes) (label : ℕ → Label) (byte : ℕ → ℕ) (place : ℕ → Place) (h : Sound s label byte place) (t : Tetrahedron) (v : Valid s t) where
+  abbrev pub rows : List (Row (Entry Vertex))
+  rows = rowsFor (λ v. label (cornerNumber s t v))
+
+  pub oriented-rows : map (oriented place) (map (mapRow (idOf s t)) rows) ≡ map (mapRow (idOf s t)) (map (signedRow (winds (t .edge))) rows)
+  oriented-rows = ?o
+
+  pub positive : (r : ℕ) (d : Row (Entry Vertex)) → r < length rows → pos 0 <ℤ rowVolume place (mapRow (idOf s t) (signedRow (winds (t .edge)) (getD rows r d)))
+  positive r d l = ?
