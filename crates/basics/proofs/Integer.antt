@@ -92,7 +92,7 @@ _⊗_ {x} {y} a b =
     record {
       p = a .p * b .p + a .n * b .n;
       n = a .p * b .n + a .n * b .p;
-      is = mul-split x y (a .p) (a .n) (b .p) (b .n) (a .is) (b .is)
+      is = mul-split x y (a .p) (a .n) (b .p) (b .n) (a .is) (b .is);
     }
 
 abbrev pub minus : {x : ℤ} → Split x → Split (negℤ x)

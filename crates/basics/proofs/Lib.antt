@@ -2,3 +2,4 @@ pub mod Test
 pub mod Finite
 pub mod Integer
 pub mod Search
+pub mod Mapped

@@ -2,15 +2,16 @@
 -- codes, and the row table holds the rows, four ids each. Assumes nothing.
 use Prim.Native.Nat.{ℕ, zero, suc, _+_, _*_, _≤_, _<_}
 use native.Mathlib.Omega.{arith}
-use mathlib.Core.Path.{_≡_, refl, _∙_}
+use mathlib.Core.Path.{_≡_, refl, sym, _∙_}
 use mathlib.Core.Logic.{inl}
 use mathlib.Core.Bool.{Bool, true, false, not}
-use mathlib.Core.List.{List, [], _∷_, _++_}
+use mathlib.Core.List.{List, [], _∷_, _++_, map}
 use lib.ListN.{length, getD, drop}
 use lib.Dec.{leb, eqb}
 use borrow.Author.Tests.{le-leb, lt-leb}
 use Rattle.basics.specs.Choice.{if_then_else_}
-use Rattle.basics.specs.Lists.{gather, count}
+use Rattle.basics.specs.Lists.{gather, below, count}
+use Rattle.basics.proofs.Mapped.{read-all}
 use Rattle.lattice.specs.Counts.{points}
 use Rattle.moving.specs.Block.{Block}
 use Rattle.moving.specs.Moving.{stateOf}
@@ -24,6 +25,10 @@ use Rattle.filling.proofs.Accepted.{Accepted, passed-all, accepted-fill
 -- the i-th row, read from a row table
 abbrev pub rowIn : List ℕ → ℕ → Row ℕ
 rowIn t i = row (getD t (4 * i) 0) (getD t (4 * i + 1) 0) (getD t (4 * i + 2) 0) (getD t (4 * i + 3) 0)
+
+-- the first n of them
+unfoldable pub rowsRead : List ℕ → ℕ → List (Row ℕ)
+rowsRead t n = map (rowIn t) (below n)
 
 pub table-length : (rows : List (Row ℕ)) → length (table rows) ≡ 4 * length rows
 unfolding gather
@@ -83,3 +88,10 @@ module _ (b : Block) (state rows : List ℕ) where
 
   pub row-written : fill b state rows .answer .number ≡ 0 → (i : ℕ) → i < length (meshOf b) → rowIn (fill b state rows .rows) i ≡ nthRow (meshOf b) i
   row-written e i h = rw (rows-written e) (table-row (meshOf b) (drop (4 * length (meshOf b)) rows) i h)
+
+  -- so the rows, read from the tables that filling leaves, are those of the definition
+  pub rows-read : fill b state rows .answer .number ≡ 0 → rowsRead (fill b state rows .rows) (fill b state rows .answer .rows) ≡ meshOf b
+  unfolding rowsRead
+  rows-read e =
+      let p = passed-all b state rows 0 (inl refl) e in
+      read-all (rowIn (fill b state rows .rows)) (meshOf b) (fill b state rows .answer .rows) (row 0 0 0 0) (sym (rows-counted (p .accepted) (p .state-long))) (row-written e)

@@ -1,28 +1,26 @@
 -- From the rules of samples, bytes and moves to the hypotheses of the mesh theorem: an accepted block is sound, and after moving no rim point
 -- is plus. Assumes nothing.
-use Prim.Native.Nat.{ℕ, _+_, _*_, _-_, _/_, _%_, _≤_, _<_}
+use Prim.Native.Nat.{ℕ, _+_, _-_, _/_, _%_, _≤_, _<_}
 use native.Mathlib.Omega.{arith}
 use native.Mathlib.Decide.{ℕ-discrete}
-use mathlib.Core.Path.{_≡_, refl, sym, ap, _∙_, subst}
-use mathlib.Core.Logic.{_⊎_, inl, inr}
-use mathlib.Core.Bool.{Bool, true, false, not, _&&_}
-use mathlib.Core.List.{List}
-use lib.IntN.{ℤ, pos, _+ℤ_, _-ℤ_, _*ℤ_}
+use mathlib.Core.Path.{_≡_, refl, sym, ap, _∙_}
+use mathlib.Core.Logic.{inl, inr}
+use mathlib.Core.Bool.{Bool, true, false, not}
+use lib.IntN.{ℤ, pos, _+ℤ_, _*ℤ_}
 use lib.ListN.{getD}
-use lib.Dec.{T, eqb, leb, ltb}
+use lib.Dec.{T}
 use borrow.Author.Tests.{eq-eqb, lt-ltb, le-ltb, le-leb}
 use Rattle.basics.specs.Choice.{if_then_else_}
 use Rattle.basics.proofs.Test.{&&-i, T-true, false-F, lt-or}
 use Rattle.basics.proofs.Integer.{ring, nat, int, _⊕_, _⊗_}
 use Rattle.lattice.specs.declared.Sizes.{Sizes}
 use Rattle.lattice.specs.declared.Kind.{Kind}
-use Rattle.lattice.specs.declared.Near.{Near}
-use Rattle.lattice.specs.declared.Near.the-variants.{At, Nothing}
+use Rattle.lattice.specs.declared.Near.the-variants.{At}
 use Rattle.lattice.specs.Axis.{Axis}
 use Rattle.lattice.specs.Counts.{points}
-use Rattle.lattice.specs.Point.{doubled, Inside, number, kindOf, indexOf}
-use Rattle.lattice.specs.Direction.{Step, Code, isStart, directionOf, direction, long, step}
-use Rattle.lattice.specs.Edge.{near, neighbour, byteAt}
+use Rattle.lattice.specs.Point.{doubled, Inside, number}
+use Rattle.lattice.specs.Direction.{isStart, directionOf, direction, long, step}
+use Rattle.lattice.specs.Edge.{neighbour, byteAt}
 use Rattle.lattice.specs.Rim.{rimAt, rim}
 use Rattle.lattice.proofs.Number.{number-lt, kind-number, index-number}
 use Rattle.lattice.proofs.Edge.{leads-near, near-number}
@@ -32,13 +30,13 @@ use Rattle.moving.specs.Block.{Block, cutByte}
 use Rattle.moving.specs.Label.{isPlus, isMinus, isZero, opposed}
 use Rattle.moving.specs.Violation.{limit, longLimit, shortLimit}
 use Rattle.moving.specs.Moving.{labelBefore, labelAfter, stateOf}
-use Rattle.moving.proofs.Moved.{nonzero-still, label-still, label-moved}
+use Rattle.moving.proofs.Moved.{nonzero-still, label-still}
 use Rattle.stencil.specs.Id.{cutId}
-use Rattle.geometry.specs.Place.{Place, latticePlace, rest, signed, cutPlace, pointPlace, placeOf}
+use Rattle.geometry.specs.Place.{Place, latticePlace, signed, cutPlace, pointPlace, placeOf}
 use Rattle.filling.specs.Check.{rimFault, crossesTo, crosses, cutFault}
 use Rattle.filling.proofs.Accepted.{Accepted}
 use Rattle.mesh.proofs.Halves.{reach, Moved, Sound, NoRim}
-use Rattle.mesh.proofs.Warp.{Bytes, rest-number, Warped, moved-within, still-stands}
+use Rattle.mesh.proofs.Warp.{Bytes, rest-number, moved-within, still-stands}
 
 -- after moving: the label of a point, and the place of an id
 abbrev pub finalLabel : Block → ℕ → Label

@@ -10,6 +10,7 @@ use lib.Dec.{T}
 use lib.ListN.{length, getD}
 use Rattle.basics.specs.Choice.{if_then_else_}
 use Rattle.basics.specs.Lists.{gather}
+use Rattle.basics.proofs.Test.{Member}
 use Rattle.lattice.specs.declared.Sizes.{Sizes}
 use Rattle.lattice.specs.declared.Kind.{Kind}
 use Rattle.lattice.specs.Axis.{Axis}
@@ -68,3 +69,10 @@ module _ (s : Sizes) (label : ℕ → Label) (byte : ℕ → ℕ) (place : ℕ �
 
   pub positive : (r : ℕ) (d : Row (Entry Vertex)) → r < length rows → pos 0 <ℤ rowVolume place (mapRow (idOf s t) (signedRow (winds (t .edge)) (getD rows r d)))
   positive r d l = ?
+
+-- of the list of tetrahedra
+pub listed-valid : (s : Sizes) (t : Tetrahedron) → Member t (tetrahedraOf s) → Valid s t
+listed-valid s t m = ?
+
+pub find : {A B : Type 0} (f : A → List B) (l : List A) (j : ℕ) (d : B) → j < length (gather f l) → (x : A) × (r : ℕ) × Member x l × (r < length (f x)) × (getD (gather f l) j d ≡ getD (f x) r d)
+find f l j d h = ?

@@ -1,28 +1,27 @@
 -- Where a point stands after moving: on its lattice place, or within its limit along one of its fourteen directions. Assumes nothing.
 use Prim.Native.Nat.{ℕ, _+_, _*_, _-_, _≤_, _<_}
 use native.Mathlib.Omega.{arith}
-use mathlib.Core.Path.{_≡_, refl, sym, ap, _∙_, subst}
-use mathlib.Core.Logic.{_⊎_, inl, inr}
-use mathlib.Core.Bool.{Bool, true, false, not, _&&_}
+use mathlib.Core.Path.{_≡_, refl, ap, _∙_}
+use mathlib.Core.Bool.{Bool, true, false, not}
 use mathlib.Core.List.{List}
-use lib.IntN.{ℤ, pos, _+ℤ_, _-ℤ_, _*ℤ_}
+use lib.IntN.{pos, _+ℤ_, _-ℤ_, _*ℤ_}
 use lib.ListN.{getD}
 use lib.Dec.{T, eqb, leb, leb→le}
-use borrow.Author.Tests.{eq-eqb, ne-eqb}
+use borrow.Author.Tests.{ne-eqb}
 use Rattle.basics.specs.Choice.{if_then_else_}
 use Rattle.basics.proofs.Test.{&&-r}
-use Rattle.basics.proofs.Integer.{ring, nat, int, _⊕_, _⊖_, _⊗_}
+use Rattle.basics.proofs.Integer.{ring, nat, _⊕_, _⊖_, _⊗_}
 use Rattle.lattice.specs.declared.Sizes.{Sizes}
 use Rattle.lattice.specs.declared.Kind.{Kind}
 use Rattle.lattice.specs.declared.Near.{Near}
 use Rattle.lattice.specs.declared.Near.the-variants.{At, Nothing}
 use Rattle.lattice.specs.Axis.{Axis}
 use Rattle.lattice.specs.Counts.{points}
-use Rattle.lattice.specs.Point.{doubled, Inside, number, kindOf, indexOf}
-use Rattle.lattice.specs.Direction.{Step, Code, isStart, directionOf, direction, reversed, step}
-use Rattle.lattice.specs.Edge.{near, neighbour, byteAt, edgeByte}
+use Rattle.lattice.specs.Point.{doubled, Inside, number}
+use Rattle.lattice.specs.Direction.{Code, isStart, directionOf, direction, step}
+use Rattle.lattice.specs.Edge.{near, byteAt, edgeByte}
 use Rattle.lattice.proofs.Number.{number-lt, kind-number, index-number}
-use Rattle.lattice.proofs.Edge.{Leads, FarEnd, far-end, near-number}
+use Rattle.lattice.proofs.Edge.{FarEnd, far-end, near-number}
 use Rattle.moving.specs.Block.{Block, cutByte}
 use Rattle.moving.specs.Violation.{limit, measured, violates}
 use Rattle.moving.specs.Moving.{live, violatedAlong, violatedBy, choice, codes, stateOf}
