@@ -3,3 +3,5 @@ pub mod Finite
 pub mod Integer
 pub mod Search
 pub mod Mapped
+pub mod Tested
+pub mod Gather

@@ -35,7 +35,8 @@ use Rattle.stencil.specs.Id.{cutId}
 use Rattle.geometry.specs.Place.{Place, latticePlace, signed, cutPlace, pointPlace, placeOf}
 use Rattle.filling.specs.Check.{rimFault, crossesTo, crosses, cutFault}
 use Rattle.filling.proofs.Accepted.{Accepted}
-use Rattle.mesh.proofs.Halves.{reach, Moved, Sound, NoRim}
+use Rattle.volumes.proofs.Sound.{reach, Moved, Sound}
+use Rattle.mesh.proofs.Halves.{NoRim}
 use Rattle.mesh.proofs.Warp.{Bytes, rest-number, moved-within, still-stands}
 
 -- after moving: the label of a point, and the place of an id
@@ -47,7 +48,7 @@ finalPlace b = placeOf (b .sizes) (b .cuts) (stateOf b)
 
 -- the limits of document 01 lie within those for which the mesh theorem is shown
 limit-reach : (c : ℕ) → limit (directionOf c) ≤ reach c
-unfolding limit reach
+unfolding limit
 limit-reach c = go (long (directionOf c))
   where
     go : (l : Bool) → (if l then longLimit else shortLimit) ≤ (if l then 63 else 127)

@@ -31,22 +31,7 @@ use Rattle.stencil.proofs.Valid.{Valid}
 use Rattle.geometry.specs.Place.{Place, latticePlace, signed}
 use Rattle.filling.specs.Mesh.{rowVolume, oriented}
 use Rattle.filling.specs.Demand.{FaceFits}
-
-unfoldable pub reach : ℕ → ℕ
-reach c = if long (directionOf c) then 63 else 127
-
-pub record Moved (k : Kind) (i : Axis → ℕ) (p : Place) : Type 0 where
-  pub c : ℕ
-  pub code : Code c
-  pub t : ℕ
-  pub within : t ≤ reach c
-  pub is : (a : Axis) → p a ≡ latticePlace k i a +ℤ pos t *ℤ signed (step c a)
-
-pub record Sound (s : Sizes) (label : ℕ → Label) (byte : ℕ → ℕ) (place : ℕ → Place) : Type 0 where
-  pub moves : (k : Kind) (i : Axis → ℕ) → Inside s k i → Moved k i (place (number s k i))
-  pub still : (k : Kind) (i : Axis → ℕ) → Inside s k i → T (not (isZero (label (number s k i)))) → (a : Axis) → place (number s k i) a ≡ latticePlace k i a
-  pub bytes : (k l : Kind) (i j : Axis → ℕ) (d : ℕ) → Inside s k i → Inside s l j → d < 7 → ((a : Axis) → doubled l (j a) + direction d a .down ≡ doubled k (i a) + direction d a .up) → T (opposed (label (number s k i)) (label (number s l j))) → (0 < byte (byteAt (number s k i) d)) × (byte (byteAt (number s k i) d) < 256)
-  pub cut-places : (k : Kind) (i : Axis → ℕ) (d : ℕ) → Inside s k i → d < 7 → (a : Axis) → place (cutId s (number s k i) d) a ≡ latticePlace k i a +ℤ pos (byte (byteAt (number s k i) d)) *ℤ signed (direction d a)
+use Rattle.volumes.proofs.Sound.{Sound}
 
 abbrev pub NoRim : Sizes → (ℕ → Label) → Type 0
 NoRim s label = (k : Kind) (i : Axis → ℕ) → Inside s k i → T (rimAt s k i) → label (number s k i) ≡ Plus → ⊥
@@ -73,6 +58,3 @@ module _ (s : Sizes) (label : ℕ → Label) (byte : ℕ → ℕ) (place : ℕ �
 -- of the list of tetrahedra
 pub listed-valid : (s : Sizes) (t : Tetrahedron) → Member t (tetrahedraOf s) → Valid s t
 listed-valid s t m = ?
-
-pub find : {A B : Type 0} (f : A → List B) (l : List A) (j : ℕ) (d : B) → j < length (gather f l) → (x : A) × (r : ℕ) × Member x l × (r < length (f x)) × (getD (gather f l) j d ≡ getD (f x) r d)
-find f l j d h = ?

@@ -7,7 +7,8 @@ use mathlib.Core.List.{List, map}
 use lib.IntN.{pos}
 use lib.Signed.{_<ℤ_}
 use lib.ListN.{length, length-map}
-use Rattle.basics.proofs.Test.{Member}
+use Rattle.basics.specs.Lists.{gather}
+use Rattle.basics.proofs.Gather.{Found, find, found-get, found-in, found-member}
 use Rattle.basics.proofs.Mapped.{map-at, gather-same}
 use Rattle.moving.specs.Block.{Block, cutByte}
 use Rattle.moving.specs.Moving.{stateOf}
@@ -19,7 +20,8 @@ use Rattle.stencil.proofs.Sign.{signed, winds}
 use Rattle.stencil.proofs.Valid.{Valid}
 use Rattle.filling.specs.Mesh.{rowVolume, labelsIn, rowsIn, rowsWith, meshOf}
 use Rattle.filling.specs.Demand.{nthRow}
-use Rattle.mesh.proofs.Halves.{Sound, signedIn, signedRows, oriented-rows, positive, listed-valid, find}
+use Rattle.volumes.proofs.Sound.{Sound}
+use Rattle.mesh.proofs.Halves.{signedIn, signedRows, oriented-rows, positive, listed-valid}
 use Rattle.mesh.proofs.Bridge.{finalLabel, finalPlace}
 
 module _ (b : Block) (s : Sound (b .sizes) (finalLabel b) (cutByte b) (finalPlace b)) where
@@ -50,8 +52,10 @@ module _ (b : Block) (s : Sound (b .sizes) (finalLabel b) (cutByte b) (finalPlac
 
   pub rows-positive : (i : ℕ) → i < length (signedRows (b .sizes) (finalLabel b)) → pos 0 <ℤ rowVolume (finalPlace b) (nthRow (signedRows (b .sizes) (finalLabel b)) i)
   unfolding signedRows
-  rows-positive i h = go (find (signedIn (b .sizes) (finalLabel b)) (tetrahedraOf (b .sizes)) i (row 0 0 0 0) h)
+  rows-positive i h = go (find f (tetrahedraOf (b .sizes)) i h)
     where
-      go : (t : Tetrahedron) × (r : ℕ) × Member t (tetrahedraOf (b .sizes)) × (r < length (signedIn (b .sizes) (finalLabel b) t)) × (nthRow (signedRows (b .sizes) (finalLabel b)) i ≡ nthRow (signedIn (b .sizes) (finalLabel b) t) r)
-          → pos 0 <ℤ rowVolume (finalPlace b) (nthRow (signedRows (b .sizes) (finalLabel b)) i)
-      go (t, r, m, l, e) = rw e (row-positive t (listed-valid (b .sizes) t m) r l)
+      f : Tetrahedron → List (Row ℕ)
+      f = signedIn (b .sizes) (finalLabel b)
+
+      go : (t : Tetrahedron) × (r : ℕ) × Found f t r (tetrahedraOf (b .sizes)) i → pos 0 <ℤ rowVolume (finalPlace b) (nthRow (gather f (tetrahedraOf (b .sizes))) i)
+      go (t, r, u) = rw (found-get f (row 0 0 0 0) u) (row-positive t (listed-valid (b .sizes) t (found-member f u)) r (found-in f u))
