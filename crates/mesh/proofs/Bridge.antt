@@ -11,7 +11,8 @@ use lib.ListN.{getD}
 use lib.Dec.{T}
 use borrow.Author.Tests.{eq-eqb, lt-ltb, le-ltb, le-leb}
 use Rattle.basics.specs.Choice.{if_then_else_}
-use Rattle.basics.proofs.Test.{&&-i, T-true, false-F, lt-or}
+use Rattle.basics.proofs.Finite.{each, each-use}
+use Rattle.basics.proofs.Test.{_&_, and-l, and-r, imp, imp-use, &&-i, T-true, false-F, lt-or}
 use Rattle.basics.proofs.Integer.{ring, nat, int, _⊕_, _⊗_}
 use Rattle.lattice.specs.declared.Sizes.{Sizes}
 use Rattle.lattice.specs.declared.Kind.{Kind}
@@ -25,11 +26,11 @@ use Rattle.lattice.specs.Rim.{rimAt, rim}
 use Rattle.lattice.proofs.Number.{number-lt, kind-number, index-number}
 use Rattle.lattice.proofs.Edge.{leads-near, near-number}
 use Rattle.moving.specs.declared.Label.{Label}
-use Rattle.moving.specs.declared.Label.the-variants.{Minus, Zero, Plus}
 use Rattle.moving.specs.Block.{Block, cutByte}
 use Rattle.moving.specs.Label.{isPlus, isMinus, isZero, opposed}
 use Rattle.moving.specs.Violation.{limit, longLimit, shortLimit}
 use Rattle.moving.specs.Moving.{labelBefore, labelAfter, stateOf}
+use Rattle.moving.proofs.Labels.{theLabels}
 use Rattle.moving.proofs.Moved.{nonzero-still, label-still}
 use Rattle.stencil.specs.Id.{cutId}
 use Rattle.geometry.specs.Place.{Place, latticePlace, signed, cutPlace, pointPlace, placeOf}
@@ -37,7 +38,7 @@ use Rattle.filling.specs.Check.{rimFault, crossesTo, crosses, cutFault}
 use Rattle.filling.proofs.Accepted.{Accepted}
 use Rattle.volumes.proofs.Sound.{reach, Moved, Sound}
 use Rattle.mesh.proofs.Halves.{NoRim}
-use Rattle.mesh.proofs.Warp.{Bytes, rest-number, moved-within, still-stands}
+use Rattle.mesh.proofs.Warp.{Bytes, pointOf, rest-number, moved-within, still-stands}
 
 -- after moving: the label of a point, and the place of an id
 abbrev pub finalLabel : Block → ℕ → Label
@@ -55,49 +56,65 @@ limit-reach c = go (long (directionOf c))
     go true = omega arith
     go false = omega arith
 
--- labels that are opposed, or plus, are those of samples
-opposed-nonzero : (l m : Label) → T (opposed l m) → T (not (isZero l)) × T (not (isZero m))
-unfolding opposed isPlus isMinus isZero
-opposed-nonzero Minus Minus t = absurd t
-opposed-nonzero Minus Zero t = absurd t
-opposed-nonzero Minus Plus t = (tt, tt)
-opposed-nonzero Zero m t = absurd t
-opposed-nonzero Plus Minus t = (tt, tt)
-opposed-nonzero Plus Zero t = absurd t
-opposed-nonzero Plus Plus t = absurd t
+-- opposed labels are not zero
+solid : Label → Label → Bool
+solid l m = not (isZero l) & not (isZero m)
+
+opposed-ok : T (each theLabels (λ l. each theLabels (λ m. imp (opposed l m) (solid l m))))
+unfolding _&_ solid opposed isPlus isMinus isZero
+opposed-ok = tt
+
+opposed-solid : (l m : Label) → T (opposed l m) → T (not (isZero l)) × T (not (isZero m))
+unfolding solid
+opposed-solid l m t =
+    let u = each-use theLabels (λ m. imp (opposed l m) (solid l m)) (each-use theLabels (λ l. each theLabels (λ m. imp (opposed l m) (solid l m))) opposed-ok l) m in
+    let w = imp-use (opposed l m) (solid l m) u t in
+    (and-l _ _ w, and-r (not (isZero l)) _ w)
 
 module _ (b : Block) (k : Kind) (i : Axis → ℕ) (inside : Inside (b .sizes) k i) where
-  place-point : finalPlace b (number (b .sizes) k i) ≡ pointPlace (b .sizes) (b .cuts) (stateOf b) (number (b .sizes) k i)
+  place-point : finalPlace b (pointOf b k i) ≡ pointPlace (b .sizes) (b .cuts) (stateOf b) (pointOf b k i)
   unfolding placeOf
   place-point = rw (lt-ltb _ _ (number-lt (b .sizes) k i inside)) refl
 
-  standing : getD (stateOf b) (number (b .sizes) k i) 0 ≡ 0 → (a : Axis) → finalPlace b (number (b .sizes) k i) a ≡ latticePlace k i a
+  standing : getD (stateOf b) (pointOf b k i) 0 ≡ 0 → (a : Axis) → finalPlace b (pointOf b k i) a ≡ latticePlace k i a
   standing e a = ap (λ (f : Place). f a) place-point ∙ still-stands b k i inside e a
 
-  moves : Bytes b → Moved k i (finalPlace b (number (b .sizes) k i))
-  moves bytes = go (ℕ-discrete (getD (stateOf b) (number (b .sizes) k i) 0) 0)
+  moves : Bytes b → Moved k i (finalPlace b (pointOf b k i))
+  moves bytes = go (ℕ-discrete (getD (stateOf b) (pointOf b k i) 0) 0)
     where
       -- no step at all, by any code
       none : (x y : ℤ) → x ≡ x +ℤ pos 0 *ℤ y
       none x y = ring (int x) (int x ⊕ nat 0 ⊗ int y) (omega arith)
 
-      go : Dec (getD (stateOf b) (number (b .sizes) k i) 0 ≡ 0) → Moved k i (finalPlace b (number (b .sizes) k i))
+      go : Dec (getD (stateOf b) (pointOf b k i) 0 ≡ 0) → Moved k i (finalPlace b (pointOf b k i))
       go (yes e) =
-          record { c = 1; code = record { low = omega arith; high = omega arith }; t = 0; within = omega arith; is = λ a. standing e a ∙ none (latticePlace k i a) (signed (step 1 a)) }
+          record {
+            c = 1;
+            code = record { low = omega arith; high = omega arith };
+            t = 0;
+            within = omega arith;
+            is = λ a. standing e a ∙ none (latticePlace k i a) (signed (step 1 a));
+          }
       go (no n) =
           let w = moved-within b bytes k i inside n in
-          record { c = w .c; code = w .code; t = w .t; within = omega (arith, w .within, limit-reach (w .c)); is = λ a. ap (λ (f : Place). f a) place-point ∙ w .is a }
+          record {
+            c = getD (stateOf b) (pointOf b k i) 0;
+            code = w .code;
+            t = w .t;
+            within = omega (arith, w .within, limit-reach (getD (stateOf b) (pointOf b k i) 0));
+            is = λ a. ap (λ (f : Place). f a) place-point ∙ w .is a;
+          }
 
   -- a cut's place
-  cut-place : (d : ℕ) → d < 7 → (a : Axis) → finalPlace b (cutId (b .sizes) (number (b .sizes) k i) d) a
-      ≡ latticePlace k i a +ℤ pos (cutByte b (byteAt (number (b .sizes) k i) d)) *ℤ signed (direction d a)
+  cut-place : (d : ℕ) → d < 7 → (a : Axis) → finalPlace b (cutId (b .sizes) (pointOf b k i) d) a
+      ≡ latticePlace k i a +ℤ pos (cutByte b (byteAt (pointOf b k i) d)) *ℤ signed (direction d a)
   unfolding placeOf cutPlace
-  cut-place d h a = rw (le-ltb (cutId (b .sizes) (number (b .sizes) k i) d) (points (b .sizes)) (omega arith), start, way, rest-number (b .sizes) k i inside a) refl
+  cut-place d h a = rw (le-ltb (cutId (b .sizes) (pointOf b k i) d) (points (b .sizes)) (omega arith), start, way, rest-number (b .sizes) k i inside a) refl
     where
-      start : (cutId (b .sizes) (number (b .sizes) k i) d - points (b .sizes)) / 7 ≡ number (b .sizes) k i
+      start : (cutId (b .sizes) (pointOf b k i) d - points (b .sizes)) / 7 ≡ pointOf b k i
       start = omega arith
 
-      way : (cutId (b .sizes) (number (b .sizes) k i) d - points (b .sizes)) % 7 ≡ d
+      way : (cutId (b .sizes) (pointOf b k i) d - points (b .sizes)) % 7 ≡ d
       way = omega arith
 
 -- the code of an edge at its start
@@ -130,18 +147,18 @@ module _ (b : Block) (h : Accepted b) where
 
   edge-byte : (k l : Kind) (i j : Axis → ℕ) (d : ℕ) → Inside (b .sizes) k i → Inside (b .sizes) l j → d < 7
       → ((a : Axis) → doubled l (j a) + direction d a .down ≡ doubled k (i a) + direction d a .up)
-      → T (opposed (finalLabel b (number (b .sizes) k i)) (finalLabel b (number (b .sizes) l j)))
-      → 0 < cutByte b (byteAt (number (b .sizes) k i) d)
+      → T (opposed (finalLabel b (pointOf b k i)) (finalLabel b (pointOf b l j)))
+      → 0 < cutByte b (byteAt (pointOf b k i) d)
   unfolding crossesTo
-  edge-byte k l i j d x y u e t = some-byte b h (number (b .sizes) k i) d (number-lt (b .sizes) k i x) u (rw to before)
+  edge-byte k l i j d x y u e t = some-byte b h (pointOf b k i) d (number-lt (b .sizes) k i x) u (rw to before)
     where
-      solid : T (not (isZero (finalLabel b (number (b .sizes) k i)))) × T (not (isZero (finalLabel b (number (b .sizes) l j))))
-      solid = opposed-nonzero (finalLabel b (number (b .sizes) k i)) (finalLabel b (number (b .sizes) l j)) t
+      both : T (not (isZero (finalLabel b (pointOf b k i)))) × T (not (isZero (finalLabel b (pointOf b l j))))
+      both = opposed-solid (finalLabel b (pointOf b k i)) (finalLabel b (pointOf b l j)) t
 
-      before : T (opposed (labelBefore b (number (b .sizes) k i)) (labelBefore b (number (b .sizes) l j)))
-      before = rw (unchanged (number (b .sizes) k i) (solid .0), unchanged (number (b .sizes) l j) (solid .1)) at t
+      before : T (opposed (labelBefore b (pointOf b k i)) (labelBefore b (pointOf b l j)))
+      before = rw (unchanged (pointOf b k i) (both .0), unchanged (pointOf b l j) (both .1)) at t
 
-      to : neighbour (b .sizes) (number (b .sizes) k i) (d + 1) ≡ At (number (b .sizes) l j)
+      to : neighbour (b .sizes) (pointOf b k i) (d + 1) ≡ At (pointOf b l j)
       to =
           near-number (b .sizes) k i x (d + 1)
           ∙ leads-near (b .sizes) k i (d + 1) l j x y (record { low = omega arith; high = omega arith }) (λ a. rw (start-step d u a) (e a))
@@ -150,14 +167,14 @@ module _ (b : Block) (h : Accepted b) where
   sound bytes =
       record {
         moves = λ k i x. moves b k i x bytes;
-        still = λ k i x t. standing b k i x (nonzero-still b (stateOf b) (number (b .sizes) k i) t);
-        bytes = λ k l i j d x y u e t. (edge-byte k l i j d x y u e t, bytes (byteAt (number (b .sizes) k i) d));
+        still = λ k i x t. standing b k i x (nonzero-still b (stateOf b) (pointOf b k i) t);
+        bytes = λ k l i j d x y u e t. (edge-byte k l i j d x y u e t, bytes (byteAt (pointOf b k i) d));
         cut-places = λ k i d x u. cut-place b k i x d u;
       }
 
   pub no-rim : NoRim (b .sizes) (finalLabel b)
   unfolding rimFault isPlus isZero
-  no-rim k i x t e = false-F _ (h .rim-fine (number (b .sizes) k i) (number-lt (b .sizes) k i x)) (&&-i (rim (b .sizes) (number (b .sizes) k i)) (isPlus (labelBefore b (number (b .sizes) k i))) (rw (rim-number (b .sizes) k i x) t) plus)
+  no-rim k i x t e = false-F _ (h .rim-fine (pointOf b k i) (number-lt (b .sizes) k i x)) (&&-i (rim (b .sizes) (pointOf b k i)) (isPlus (labelBefore b (pointOf b k i))) (rw (rim-number (b .sizes) k i x) t) plus)
     where
-      plus : T (isPlus (labelBefore b (number (b .sizes) k i)))
-      plus = rw (sym (unchanged (number (b .sizes) k i) (rw e tt)) ∙ e) tt
+      plus : T (isPlus (labelBefore b (pointOf b k i)))
+      plus = rw (sym (unchanged (pointOf b k i) (rw e tt)) ∙ e) tt

@@ -1,34 +1,29 @@
 -- temporary: the statements of the two halves
-use Prim.Native.Nat.{ℕ, _+_, _*_, _≤_, _<_}
+use Prim.Native.Nat.{ℕ, _≤_, _<_}
 use mathlib.Core.Path.{_≡_}
 use mathlib.Core.Logic.{_⊎_}
-use mathlib.Core.Bool.{Bool, not}
 use mathlib.Core.List.{List, map}
-use lib.IntN.{ℤ, pos, _+ℤ_, _*ℤ_}
+use lib.IntN.{pos}
 use lib.Signed.{_<ℤ_}
 use lib.Dec.{T}
 use lib.ListN.{length, getD}
-use Rattle.basics.specs.Choice.{if_then_else_}
 use Rattle.basics.specs.Lists.{gather}
 use Rattle.basics.proofs.Test.{Member}
 use Rattle.lattice.specs.declared.Sizes.{Sizes}
 use Rattle.lattice.specs.declared.Kind.{Kind}
 use Rattle.lattice.specs.Axis.{Axis}
 use Rattle.lattice.specs.Counts.{points}
-use Rattle.lattice.specs.Point.{doubled, Inside, number}
-use Rattle.lattice.specs.Direction.{long, Code, directionOf, direction, step}
-use Rattle.lattice.specs.Edge.{byteAt}
+use Rattle.lattice.specs.Point.{Inside, number}
 use Rattle.lattice.specs.Rim.{rimAt}
 use Rattle.moving.specs.declared.Label.{Label}
 use Rattle.moving.specs.declared.Label.the-variants.{Zero, Plus}
-use Rattle.moving.specs.Label.{isZero, opposed}
 use Rattle.stencil.specs.Tetrahedron.{Tetrahedron, Vertex, cornerNumber, tetrahedraOf}
-use Rattle.stencil.specs.Row.{Row, row, mapRow}
-use Rattle.stencil.specs.Stencil.{Entry, rowsFor, between}
-use Rattle.stencil.specs.Id.{idOf, cutId}
+use Rattle.stencil.specs.Row.{Row, mapRow}
+use Rattle.stencil.specs.Stencil.{Entry, rowsFor}
+use Rattle.stencil.specs.Id.{idOf}
 use Rattle.stencil.proofs.Sign.{signed as signedRow, winds}
 use Rattle.stencil.proofs.Valid.{Valid}
-use Rattle.geometry.specs.Place.{Place, latticePlace, signed}
+use Rattle.geometry.specs.Place.{Place}
 use Rattle.filling.specs.Mesh.{rowVolume, oriented}
 use Rattle.filling.specs.Demand.{FaceFits}
 use Rattle.volumes.proofs.Sound.{Sound}

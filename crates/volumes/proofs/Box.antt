@@ -55,7 +55,7 @@ move-inner c t a code h =
       fits = omega arith;
       is =
           ring (nat t ⊗ (nat (step c a .up) ⊖ nat (step c a .down))) (nat (half + t * step c a .up - t * step c a .down) ⊖ nat half)
-          (omega arith)
+          (omega arith);
     }
 
 -- a function z ↦ z k + c that is positive at the ends of an interval is so between them
@@ -78,8 +78,8 @@ inside f k c affine l d I h =
     mixed =
         ap (λ (d : ℤ). pos (m + n) *ℤ f (l +ℤ d)) (I .is) ∙ ap (λ (z : ℤ). pos (m + n) *ℤ z) (affine (l +ℤ (pos m -ℤ pos half)))
         ∙ ring (nat (m + n) ⊗ ((int l ⊕ (nat m ⊖ nat half)) ⊗ int k ⊕ int c))
-          (nat m ⊗ ((int l ⊕ nat half) ⊗ int k ⊕ int c) ⊕ nat n ⊗ ((int l ⊕ int (negsuc 126)) ⊗ int k ⊕ int c))
-          (omega (arith, ap (λ (z : ℕ). m * z * above k) all, ap (λ (z : ℕ). m * z * beneath k) all))
+        (nat m ⊗ ((int l ⊕ nat half) ⊗ int k ⊕ int c) ⊕ nat n ⊗ ((int l ⊕ int (negsuc 126)) ⊗ int k ⊕ int c))
+        (omega (arith, ap (λ (z : ℕ). m * z * above k) all, ap (λ (z : ℕ). m * z * beneath k) all))
         ∙ (λ i. pos m *ℤ sym (affine (l +ℤ pos half)) i +ℤ pos n *ℤ sym (affine (l +ℤ negsuc 126)) i)
 
 -- the corners of a box

@@ -39,13 +39,25 @@ pub record Mix (A B E : Place) : Type 0 where
 
 pub flip : {A B E : Place} → Mix A B E → Mix B A E
 flip {A} {B} x =
-    record { m = x .n; n = x .m; m-some = x .n-some; n-some = x .m-some; whole = omega (arith, x .whole);
-      is = λ a. x .is a ∙ +ℤ-comm (pos (x .m) *ℤ A a) (pos (x .n) *ℤ B a) }
+    record {
+      m = x .n;
+      n = x .m;
+      m-some = x .n-some;
+      n-some = x .m-some;
+      whole = omega (arith, x .whole);
+      is = λ a. x .is a ∙ +ℤ-comm (pos (x .m) *ℤ A a) (pos (x .n) *ℤ B a);
+    }
 
 pub itself : (A : Place) → Mix A A A
 itself A =
-    record { m = 128; n = 128; m-some = omega arith; n-some = omega arith; whole = refl;
-      is = λ a. ring (nat 256 ⊗ int (A a)) (nat 128 ⊗ int (A a) ⊕ nat 128 ⊗ int (A a)) (omega arith) }
+    record {
+      m = 128;
+      n = 128;
+      m-some = omega arith;
+      n-some = omega arith;
+      whole = refl;
+      is = λ a. ring (nat 256 ⊗ int (A a)) (nat 128 ⊗ int (A a) ⊕ nat 128 ⊗ int (A a)) (omega arith);
+    }
 
 -- opposite labels are not zero
 opposed-first : (l m : Label) → T (opposed l m) → T (not (isZero l))
@@ -99,10 +111,14 @@ module _ {s : Sizes} {label : ℕ → Label} {byte : ℕ → ℕ} {place : ℕ �
   unfolding cornerNumber latticePlace
   cut-mix u v d small e o =
       record {
-        m = 256 - b; n = b; m-some = omega (arith, in-range .1); n-some = in-range .0; whole = omega (arith, in-range .1);
+        m = 256 - b;
+        n = b;
+        m-some = omega (arith, in-range .1);
+        n-some = in-range .0;
+        whole = omega (arith, in-range .1);
         is = λ a. ap (λ (z : ℤ). pos 256 *ℤ z) (Q .cut-places (kind u) (corner t u) d (corner-inside s t h u) small a)
             ∙ part (doubled (kind u) (corner t u a)) (doubled (kind v) (corner t v a)) (256 - b) b (direction d a) (omega (arith, in-range .1)) (e a)
-            ∙ (λ i. pos (256 - b) *ℤ sym (rests u (opposed-first _ _ o) a) i +ℤ pos b *ℤ sym (rests v (opposed-first _ _ (opposed-back _ _ o)) a) i)
+            ∙ (λ i. pos (256 - b) *ℤ sym (rests u (opposed-first _ _ o) a) i +ℤ pos b *ℤ sym (rests v (opposed-first _ _ (opposed-back _ _ o)) a) i);
       }
     where
       b : ℕ
