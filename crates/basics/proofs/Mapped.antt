@@ -32,8 +32,12 @@ from-at a (suc n) zero h = omega arith
 from-at a (suc n) (suc i) h = from-at (suc a) n i (omega arith) ∙ omega arith
 
 -- a list is what its first n entries are read as
-pub read-all : {A : Type 0} (f : ℕ → A) (l : List A) (n : ℕ) (d : A) → length l ≡ n → ((i : ℕ) → i < length l → f i ≡ getD l i d) → map f (below n) ≡ l
-read-all f l n d e h = ext-getD d (map f (below n)) l (long ∙ sym e) (λ i u. map-at f (below n) i 0 d (omega (arith, from-length 0 n, long)) ∙ ap f (from-at 0 n i (omega (arith, long)) ∙ omega arith) ∙ h i (omega (arith, long)))
+pub read-all : {A : Type 0} (f : ℕ → A) (l : List A) (n : ℕ) (d : A) → length l ≡ n → ((i : ℕ) → i < length l → f i ≡ getD l i d)
+    → map f (below n) ≡ l
+read-all f l n d e h = ext-getD d (map f (below n)) l (long ∙ sym e) (λ i u. at i (omega (arith, long)) ∙ h i (omega (arith, long)))
   where
+    at : (i : ℕ) → i < n → getD (map f (below n)) i d ≡ f i
+    at i u = map-at f (below n) i 0 d (omega (arith, from-length 0 n)) ∙ ap f (from-at 0 n i u ∙ omega arith)
+
     long : length (map f (below n)) ≡ n
     long = length-map (below n) f ∙ from-length 0 n

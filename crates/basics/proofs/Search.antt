@@ -18,7 +18,8 @@ pub record First (f : ℕ → Bool) (n k r : ℕ) : Type 0 where
 
 module _ (f : ℕ → Bool) where
   first-step : (n k r : ℕ) (b : Bool) → f k ≡ b → First f n (k + 1) r → First f (suc n) k (if b then k else r)
-  first-step n k r true e h = record { low = omega arith; high = omega arith; passes = λ l. true-T (f k) e; fails = λ j l u. absurd (omega arith) }
+  first-step n k r true e h =
+      record { low = omega arith; high = omega arith; passes = λ l. true-T (f k) e; fails = λ j l u. absurd (omega arith) }
   first-step n k r false e h =
       record {
         low = omega (arith, h .low);
@@ -29,7 +30,8 @@ module _ (f : ℕ → Bool) where
 
   pub first-found : (n k : ℕ) → First f n k (firstFrom f n k)
   unfolding firstFrom
-  first-found zero k = record { low = omega arith; high = omega arith; passes = λ l. absurd (omega arith); fails = λ j l u. absurd (omega arith) }
+  first-found zero k =
+      record { low = omega arith; high = omega arith; passes = λ l. absurd (omega arith); fails = λ j l u. absurd (omega arith) }
   first-found (suc n) k = first-step n k (firstFrom f n (k + 1)) (f k) refl (first-found n (k + 1))
 
   pub lowest-le : (n : ℕ) → lowest f n ≤ n

@@ -72,9 +72,13 @@ fault-le b o = go (crosses b (o / 7) (o % 7)) (eqb (cutByte b o) 0)
     go false true = omega arith
     go false false = omega arith
 
+faulty : Block → ℕ → Bool
+faulty b o = not (eqb (cutFault b o) 0)
+
 module _ (b : Block) (state rows : List ℕ) where
   -- an answer that is not this refusal's number comes from what is tested after it
-  passed : (t : Bool) (n at : ℕ) (more : Outcome) (m : ℕ) → (t ≡ true → n ≡ m → ⊥) → (if t then refused b state rows n at else more) .answer .number ≡ m
+  passed : (t : Bool) (n at : ℕ) (more : Outcome) (m : ℕ) → (t ≡ true → n ≡ m → ⊥)
+      → (if t then refused b state rows n at else more) .answer .number ≡ m
       → (t ≡ false) × ((if t then refused b state rows n at else more) ≡ more) × (more .answer .number ≡ m)
   passed true n at more m h e = absurd (h refl e)
   passed false n at more m h e = (refl, refl, e)
@@ -86,7 +90,7 @@ module _ (b : Block) (state rows : List ℕ) where
     pub is : fill b state rows ≡ written b state rows
 
   pub passed-all : (m : ℕ) → (m ≡ 0) ⊎ (m ≡ 10) → fill b state rows .answer .number ≡ m → Passed
-  unfolding fill
+  unfolding fill faulty
   passed-all m k e =
       let s1 = passed (not (sizesFit (b .sizes))) 1 0 _ m (λ t. not-early 1 (omega arith) (omega arith)) e in
       let s2 = passed (not (eqb (length (b .samples)) (points (b .sizes)))) 2 0 _ m (λ t. not-early 2 (omega arith) (omega arith)) (s1 .2) in
@@ -100,7 +104,7 @@ module _ (b : Block) (state rows : List ℕ) where
           samples-long = eqb-true _ _ (not-false _ (s2 .0));
           cuts-long = eqb-true _ _ (not-false _ (s3 .0));
           rim-fine = lowest-none (rimFault b) (points (b .sizes)) (ltb-false _ _ (s5 .0));
-          cuts-fine = λ o h. eqb-true _ _ (not-false _ (lowest-none (λ o. not (eqb (cutFault b o) 0)) (7 * points (b .sizes)) (ltb-false _ _ (s6 .0)) o h));
+          cuts-fine = λ o h. eqb-true _ _ (not-false _ (lowest-none (faulty b) (7 * points (b .sizes)) (ltb-false _ _ (s6 .0)) o h));
         };
         state-long = eqb-true _ _ (not-false _ (s4 .0));
         is = s1 .1 ∙ s2 .1 ∙ s3 .1 ∙ s4 .1 ∙ s5 .1 ∙ s6 .1;
@@ -109,18 +113,17 @@ module _ (b : Block) (state rows : List ℕ) where
       not-early : (n : ℕ) → 0 < n → n < 10 → n ≡ m → ⊥
       not-early n l u f = elim k [ inl z ↦ omega arith | inr z ↦ omega arith ]
 
-      faulty : ℕ → Bool
-      faulty o = not (eqb (cutFault b o) 0)
-
       some : (n : ℕ) → T (not (eqb n 0)) → 0 < n
       some n t = elim (lt-or 0 n) [ inl l ↦ l | inr l ↦ absurd (T-not (eqb n 0) t (eqb-of n 0 (omega arith))) ]
 
       not-cut : ltb (firstCut b) (7 * points (b .sizes)) ≡ true → cutFault b (firstCut b) ≡ m → ⊥
-      not-cut t f = not-early (cutFault b (firstCut b)) (some (cutFault b (firstCut b)) (lowest-passes faulty (7 * points (b .sizes)) (ltb-true _ _ t))) (omega (arith, fault-le b (firstCut b))) f
+      not-cut t f =
+          not-early (cutFault b (firstCut b))
+          (some (cutFault b (firstCut b)) (lowest-passes (faulty b) (7 * points (b .sizes)) (ltb-true _ _ t))) (omega (arith, fault-le b (firstCut b))) f
 
   -- and the other way round: a block that passes is filled
   pub accepted-fills : Accepted b → length state ≡ points (b .sizes) → fill b state rows ≡ written b state rows
-  unfolding fill
+  unfolding fill faulty
   accepted-fills h l =
       simp (
         sized-fit (b .sizes) (h .sized),
@@ -128,8 +131,11 @@ module _ (b : Block) (state rows : List ℕ) where
         eq-eqb _ _ (h .cuts-long),
         eq-eqb _ _ l,
         le-ltb (firstRim b) (points (b .sizes)) (omega (arith, none-lowest (rimFault b) (points (b .sizes)) (h .rim-fine))),
-        le-ltb (firstCut b) (7 * points (b .sizes)) (omega (arith, none-lowest (λ o. not (eqb (cutFault b o) 0)) (7 * points (b .sizes)) (λ o u. rw (h .cuts-fine o u) refl))),
+        le-ltb (firstCut b) (7 * points (b .sizes)) (omega (arith, none-lowest (faulty b) (7 * points (b .sizes)) fine)),
       )
+    where
+      fine : (o : ℕ) → o < 7 * points (b .sizes) → faulty b o ≡ false
+      fine o u = rw (h .cuts-fine o u) refl
 
 -- an answer 0 or 10 says that the block is accepted
 pub filled-accepted : (b : Block) (state rows : List ℕ) → fill b state rows .answer .number ≡ 0 → Accepted b

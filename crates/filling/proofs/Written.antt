@@ -82,11 +82,13 @@ module _ (b : Block) (state rows : List ℕ) where
       let p = passed-all b state rows 0 (inl refl) e in
       rw (p .is) (go (leb (4 * length (meshOf b)) (length rows)) (rw (p .is) at e))
     where
-      go : (t : Bool) → _≡_ {A = ℕ} (if t then 0 else 10) 0 → (if t then table (meshOf b) ++ drop (length (table (meshOf b))) rows else rows) ≡ table (meshOf b) ++ drop (4 * length (meshOf b)) rows
+      go : (t : Bool) → _≡_ {A = ℕ} (if t then 0 else 10) 0
+          → (if t then table (meshOf b) ++ drop (length (table (meshOf b))) rows else rows) ≡ table (meshOf b) ++ drop (4 * length (meshOf b)) rows
       go true e = rw (table-length (meshOf b)) refl
       go false e = absurd (omega (arith, e))
 
-  pub row-written : fill b state rows .answer .number ≡ 0 → (i : ℕ) → i < length (meshOf b) → rowIn (fill b state rows .rows) i ≡ nthRow (meshOf b) i
+  pub row-written : fill b state rows .answer .number ≡ 0
+      → (i : ℕ) → i < length (meshOf b) → rowIn (fill b state rows .rows) i ≡ nthRow (meshOf b) i
   row-written e i h = rw (rows-written e) (table-row (meshOf b) (drop (4 * length (meshOf b)) rows) i h)
 
   -- so the rows, read from the tables that filling leaves, are those of the definition
@@ -94,4 +96,5 @@ module _ (b : Block) (state rows : List ℕ) where
   unfolding rowsRead
   rows-read e =
       let p = passed-all b state rows 0 (inl refl) e in
-      read-all (rowIn (fill b state rows .rows)) (meshOf b) (fill b state rows .answer .rows) (row 0 0 0 0) (sym (rows-counted (p .accepted) (p .state-long))) (row-written e)
+      read-all (rowIn (fill b state rows .rows)) (meshOf b) (fill b state rows .answer .rows) (row 0 0 0 0)
+      (sym (rows-counted (p .accepted) (p .state-long))) (row-written e)

@@ -1,5 +1,5 @@
--- From the rules of samples, bytes and moves to the hypotheses of the mesh theorem: an accepted block is sound, and after moving no rim point
--- is plus. Assumes nothing.
+-- From the rules of samples, bytes and moves to the hypotheses of the mesh theorem: an accepted block is sound, and after moving no
+-- rim point is plus. Assumes nothing.
 use Prim.Native.Nat.{ℕ, _+_, _-_, _/_, _%_, _≤_, _<_}
 use native.Mathlib.Omega.{arith}
 use native.Mathlib.Decide.{ℕ-discrete}
@@ -60,14 +60,17 @@ limit-reach c = go (long (directionOf c))
 solid : Label → Label → Bool
 solid l m = not (isZero l) & not (isZero m)
 
-opposed-ok : T (each theLabels (λ l. each theLabels (λ m. imp (opposed l m) (solid l m))))
-unfolding _&_ solid opposed isPlus isMinus isZero
+opposedSolid : Label → Label → Bool
+opposedSolid l m = imp (opposed l m) (solid l m)
+
+opposed-ok : T (each theLabels (λ l. each theLabels (opposedSolid l)))
+unfolding _&_ solid opposedSolid opposed isPlus isMinus isZero
 opposed-ok = tt
 
 opposed-solid : (l m : Label) → T (opposed l m) → T (not (isZero l)) × T (not (isZero m))
-unfolding solid
+unfolding solid opposedSolid
 opposed-solid l m t =
-    let u = each-use theLabels (λ m. imp (opposed l m) (solid l m)) (each-use theLabels (λ l. each theLabels (λ m. imp (opposed l m) (solid l m))) opposed-ok l) m in
+    let u = each-use theLabels (opposedSolid l) (each-use theLabels (λ l. each theLabels (opposedSolid l)) opposed-ok l) m in
     let w = imp-use (opposed l m) (solid l m) u t in
     (and-l _ _ w, and-r (not (isZero l)) _ w)
 
@@ -109,7 +112,8 @@ module _ (b : Block) (k : Kind) (i : Axis → ℕ) (inside : Inside (b .sizes) k
   cut-place : (d : ℕ) → d < 7 → (a : Axis) → finalPlace b (cutId (b .sizes) (pointOf b k i) d) a
       ≡ latticePlace k i a +ℤ pos (cutByte b (byteAt (pointOf b k i) d)) *ℤ signed (direction d a)
   unfolding placeOf cutPlace
-  cut-place d h a = rw (le-ltb (cutId (b .sizes) (pointOf b k i) d) (points (b .sizes)) (omega arith), start, way, rest-number (b .sizes) k i inside a) refl
+  cut-place d h a =
+      rw (le-ltb (cutId (b .sizes) (pointOf b k i) d) (points (b .sizes)) (omega arith), start, way, rest-number (b .sizes) k i inside a) refl
     where
       start : (cutId (b .sizes) (pointOf b k i) d - points (b .sizes)) / 7 ≡ pointOf b k i
       start = omega arith
@@ -125,7 +129,11 @@ start-step d h a = let e : (d + 1 - 1) % 7 ≡ d = omega arith in rw (le-leb (d 
 -- where an edge of an accepted block crosses the skin there is a byte
 some-byte : (b : Block) → Accepted b → (p d : ℕ) → p < points (b .sizes) → d < 7 → T (crosses b p d) → 0 < cutByte b (byteAt p d)
 unfolding cutFault
-some-byte b h p d l u t = elim (lt-or 0 (cutByte b (byteAt p d))) [ inl m ↦ m | inr m ↦ absurd (omega (arith, gap (omega arith), h .cuts-fine (byteAt p d) (omega arith))) ]
+some-byte b h p d l u t =
+    elim (lt-or 0 (cutByte b (byteAt p d))) [
+      | inl m ↦ m
+      | inr m ↦ absurd (omega (arith, gap (omega arith), h .cuts-fine (byteAt p d) (omega arith)))
+    ]
   where
     start : byteAt p d / 7 ≡ p
     start = omega arith
@@ -174,7 +182,9 @@ module _ (b : Block) (h : Accepted b) where
 
   pub no-rim : NoRim (b .sizes) (finalLabel b)
   unfolding rimFault isPlus isZero
-  no-rim k i x t e = false-F _ (h .rim-fine (pointOf b k i) (number-lt (b .sizes) k i x)) (&&-i (rim (b .sizes) (pointOf b k i)) (isPlus (labelBefore b (pointOf b k i))) (rw (rim-number (b .sizes) k i x) t) plus)
+  no-rim k i x t e =
+      false-F (rimFault b (pointOf b k i)) (h .rim-fine (pointOf b k i) (number-lt (b .sizes) k i x))
+      (&&-i (rim (b .sizes) (pointOf b k i)) (isPlus (labelBefore b (pointOf b k i))) (rw (rim-number (b .sizes) k i x) t) plus)
     where
       plus : T (isPlus (labelBefore b (pointOf b k i)))
       plus = rw (sym (unchanged (pointOf b k i) (rw e tt)) ∙ e) tt

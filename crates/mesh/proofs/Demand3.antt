@@ -1,5 +1,6 @@
--- Demand 3: of all rows of a filling together, each face belongs to exactly two rows, which wind it opposite ways, or to exactly one, and then
--- its three corners lie on the skin; and each row's volume, with points moved, is above zero. Assumes that cut bytes are bytes, and nothing else.
+-- Demand 3: of all rows of a filling together, each face belongs to exactly two rows, which wind it opposite ways, or to exactly one,
+-- and then its three corners lie on the skin; and each row's volume, with points moved, is above zero.
+-- Assumes that cut bytes are bytes, and nothing else.
 use Prim.Native.Nat.{ℕ, _≤_, _<_}
 use mathlib.Core.Path.{_≡_, refl, sym, subst}
 use mathlib.Core.Logic.{_⊎_, inl, inr}
@@ -23,7 +24,8 @@ use Rattle.mesh.proofs.Bridge.{finalLabel, finalPlace, sound, no-rim}
 use Rattle.mesh.proofs.Rows.{mesh-is, rows-positive}
 
 -- a wider skin
-wider : {rows : List (Row ℕ)} {S S′ : ℕ → Type 0} {i : ℕ} {v : Vertex} → ((id : ℕ) → S id → S′ id) → FaceFits rows S i v → FaceFits rows S′ i v
+wider : {rows : List (Row ℕ)} {S S′ : ℕ → Type 0} {i : ℕ} {v : Vertex} → ((id : ℕ) → S id → S′ id)
+    → FaceFits rows S i v → FaceFits rows S′ i v
 wider h (shared j w l n o u) = shared j w l n o u
 wider h (boundary u k) = boundary u (λ t. h _ (k t))
 
@@ -46,7 +48,8 @@ demand-3 b state rows bytes e = accepted-conforms b bytes (filled-accepted b sta
 
 -- the same of the rows as filling leaves them in the row table, T of them, with the points placed by the state table that it leaves
 pub demand-3-written : (b : Block) (state rows : List ℕ) → Bytes b → fill b state rows .answer .number ≡ 0
-    → Conforms (rowsRead (fill b state rows .rows) (fill b state rows .answer .rows)) (placeOf (b .sizes) (b .cuts) (fill b state rows .state)) (OnSkin b)
+    → Conforms (rowsRead (fill b state rows .rows) (fill b state rows .answer .rows))
+    (placeOf (b .sizes) (b .cuts) (fill b state rows .state)) (OnSkin b)
 demand-3-written b state rows bytes e =
     let p = passed-all b state rows 0 (inl refl) e in
     rw (rows-read b state rows e, state-written b state rows (p .accepted) (p .state-long)) (demand-3 b state rows bytes e)

@@ -32,10 +32,11 @@ module _ (b : Block) (s : Sound (b .sizes) (finalLabel b) (cutByte b) (finalPlac
       (λ t m. oriented-rows (b .sizes) (finalLabel b) (cutByte b) (finalPlace b) s t (listed-valid (b .sizes) t m))
 
   -- a row of one tetrahedron
-  row-positive : (t : Tetrahedron) → Valid (b .sizes) t → (r : ℕ) → r < length (signedIn (b .sizes) (finalLabel b) t) → pos 0 <ℤ rowVolume (finalPlace b) (nthRow (signedIn (b .sizes) (finalLabel b) t) r)
+  row-positive : (t : Tetrahedron) → Valid (b .sizes) t → (r : ℕ) → r < length (signedIn (b .sizes) (finalLabel b) t)
+      → pos 0 <ℤ rowVolume (finalPlace b) (nthRow (signedIn (b .sizes) (finalLabel b) t) r)
   unfolding signedIn
   row-positive t v r h =
-      rw (map-at (mapRow (idOf (b .sizes) t)) turned r any (row 0 0 0 0) (omega (arith, inside, length-map rows (signed (winds (t .edge))))), map-at (signed (winds (t .edge))) rows r any any inside)
+      rw (map-at (mapRow (idOf (b .sizes) t)) turned r any (row 0 0 0 0) long, map-at (signed (winds (t .edge))) rows r any any inside)
       (positive (b .sizes) (finalLabel b) (cutByte b) (finalPlace b) s t v r any inside)
     where
       rows : List (Row (Entry Vertex))
@@ -50,12 +51,17 @@ module _ (b : Block) (s : Sound (b .sizes) (finalLabel b) (cutByte b) (finalPlac
       inside : r < length rows
       inside = omega (arith, length-map rows (signed (winds (t .edge))), length-map turned (mapRow (idOf (b .sizes) t)), h)
 
-  pub rows-positive : (i : ℕ) → i < length (signedRows (b .sizes) (finalLabel b)) → pos 0 <ℤ rowVolume (finalPlace b) (nthRow (signedRows (b .sizes) (finalLabel b)) i)
+      long : r < length turned
+      long = omega (arith, inside, length-map rows (signed (winds (t .edge))))
+
+  pub rows-positive : (i : ℕ) → i < length (signedRows (b .sizes) (finalLabel b))
+      → pos 0 <ℤ rowVolume (finalPlace b) (nthRow (signedRows (b .sizes) (finalLabel b)) i)
   unfolding signedRows
   rows-positive i h = go (find f (tetrahedraOf (b .sizes)) i h)
     where
       f : Tetrahedron → List (Row ℕ)
       f = signedIn (b .sizes) (finalLabel b)
 
-      go : (t : Tetrahedron) × (r : ℕ) × Found f t r (tetrahedraOf (b .sizes)) i → pos 0 <ℤ rowVolume (finalPlace b) (nthRow (gather f (tetrahedraOf (b .sizes))) i)
+      go : (t : Tetrahedron) × (r : ℕ) × Found f t r (tetrahedraOf (b .sizes)) i
+          → pos 0 <ℤ rowVolume (finalPlace b) (nthRow (gather f (tetrahedraOf (b .sizes))) i)
       go (t, r, u) = rw (found-get f (row 0 0 0 0) u) (row-positive t (listed-valid (b .sizes) t (found-member f u)) r (found-in f u))

@@ -74,7 +74,8 @@ module _ (b : Block) (bytes : Bytes b) (k : Kind) (i : Axis → ℕ) (inside : I
     unfolding cutPlace step latticePlace
     cut-is true e a = rw (e, rest-number (b .sizes) k i inside a) refl
     cut-is false e a =
-        rw (e, rest-far) (from-end (doubled k (i a)) (doubled (far .kind) (far .index a)) _ _ (cutByte b (byteAt q (directionOf c))) (bytes _) (rw e at (far .leads a)))
+        rw (e, rest-far)
+        (from-end (doubled k (i a)) (doubled (far .kind) (far .index a)) _ _ (cutByte b (byteAt q (directionOf c))) (bytes _) (rw e at (far .leads a)))
       where
         rest-far : rest (b .sizes) q a ≡ latticePlace (far .kind) (far .index) a
         rest-far = ap (λ (n : ℕ). rest (b .sizes) n a) (far .is) ∙ rest-number (b .sizes) (far .kind) (far .index) (far .inside) a
@@ -88,7 +89,8 @@ module _ (b : Block) (bytes : Bytes b) (k : Kind) (i : Axis → ℕ) (inside : I
       record {
         code = h;
         t = measured c byte;
-        within = leb→le _ _ (&&-r (not (eqb byte 0)) (leb (measured c byte) (limit (directionOf c))) (&&-r (live b done (pointOf b k i) q) (violates c byte) t));
+        within = leb→le _ _ (&&-r (not (eqb byte 0)) (leb (measured c byte) (limit (directionOf c)))
+            (&&-r (live b done (pointOf b k i) q) (violates c byte) t));
         is = cut-is c q (far-end (b .sizes) k i c q inside h e) (isStart c) refl;
       }
     where
@@ -104,7 +106,8 @@ module _ (b : Block) (bytes : Bytes b) (k : Kind) (i : Axis → ℕ) (inside : I
   pub moved-within : (getD (stateOf b) (pointOf b k i) 0 ≡ 0 → ⊥)
       → Warped (getD (stateOf b) (pointOf b k i) 0) k i (pointPlace (b .sizes) (b .cuts) (stateOf b) (pointOf b k i))
   moved-within n =
-      rw (moved-by code found some, found) (violating done code (near (b .sizes) k i code) refl (v .0) (rw (near-number (b .sizes) k i inside code) at (v .1)))
+      rw (moved-by code found some, found)
+      (violating done code (near (b .sizes) k i code) refl (v .0) (rw (near-number (b .sizes) k i inside code) at (v .1)))
     where
       done : List ℕ
       done = codes b (pointOf b k i)

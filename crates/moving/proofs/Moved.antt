@@ -1,5 +1,5 @@
--- What moving leaves behind: one code a point, found from the moves before its turn; labels only ever go to zero; and at the end no live cut
--- violates either of its ends. Assumes nothing.
+-- What moving leaves behind: one code a point, found from the moves before its turn; labels only ever go to zero; and at the end no
+-- live cut violates either of its ends. Assumes nothing.
 use Prim.Native.Nat.{ℕ, zero, suc, _≤_, _<_}
 use native.Mathlib.Omega.{arith}
 use mathlib.Core.Path.{_≡_, refl, sym, ap, _∙_, subst}
@@ -65,7 +65,10 @@ module _ (b : Block) where
 
     choice-found : Found (choice b done p)
     unfolding choice
-    choice-found = found (firstFrom (violatedBy b done p) 14 1) (first-found (violatedBy b done p) 14 1) (ltb 14 (firstFrom (violatedBy b done p) 14 1)) refl
+    choice-found = found first (first-found (violatedBy b done p) 14 1) (ltb 14 first) refl
+      where
+        first : ℕ
+        first = firstFrom (violatedBy b done p) 14 1
 
     pub choice-violates : (choice b done p ≡ 0 → ⊥) → Code (choice b done p) × T (violatedBy b done p (choice b done p))
     choice-violates = choice-found .is-code
@@ -101,7 +104,8 @@ module _ (b : Block) where
         | inr l ↦ past l (eqb (getD (codes b n) p 0) 0)
       ]
     where
-      past : m ≤ p → (t : Bool) → ((if t then labelBefore b p else Zero) ≡ labelAfter b (codes b m) p) ⊎ ((if t then labelBefore b p else Zero) ≡ Zero)
+      past : m ≤ p → (t : Bool)
+          → ((if t then labelBefore b p else Zero) ≡ labelAfter b (codes b m) p) ⊎ ((if t then labelBefore b p else Zero) ≡ Zero)
       past l true = inl (sym (label-still (codes b m) p (code-past m p l)))
       past l false = inr refl
 
@@ -169,6 +173,7 @@ pub zero-label : (b : Block) (p : ℕ) → labelAfter b (stateOf b) p ≡ Zero �
 unfolding labelAfter
 zero-label b p z = go (eqb (getD (stateOf b) p 0) 0) refl z
   where
-    go : (t : Bool) → eqb (getD (stateOf b) p 0) 0 ≡ t → (if t then labelBefore b p else Zero) ≡ Zero → (getD (stateOf b) p 0 ≡ 0 → ⊥) ⊎ (sample b p ≡ pos 0)
+    go : (t : Bool) → eqb (getD (stateOf b) p 0) 0 ≡ t → (if t then labelBefore b p else Zero) ≡ Zero
+        → (getD (stateOf b) p 0 ≡ 0 → ⊥) ⊎ (sample b p ≡ pos 0)
     go true e f = inr (zero-sample (sample b p) f)
     go false e f = inl (eqb-false _ _ e)
