@@ -13,22 +13,18 @@ use Rattle.basics.proofs.Finite.{each, each-use}
 use Rattle.lattice.specs.Axis.{Axis, along-x, along-y, along-z, xyz}
 use Rattle.lattice.specs.Point.{doubled}
 use Rattle.lattice.proofs.Axes.{theAxes}
-use Rattle.stencil.specs.Tetrahedron.{Vertex, v0, v1, v2, v3, Quarter, kind, offset, around, unit}
-use Rattle.stencil.specs.Row.{Row, row, Face, face, faceOf, exchanged}
+use Rattle.stencil.specs.Tetrahedron.{Vertex, Quarter, kind, offset, around, unit}
+use Rattle.stencil.specs.Row.{Face, face}
 use Rattle.stencil.proofs.Corners.{theVertices, theQuarters}
 use Rattle.stencil.proofs.Sign.{winds}
 use Rattle.geometry.specs.Place.{Place}
 use Rattle.geometry.specs.Volume.{cross, dot, triple}
+use Rattle.volumes.proofs.Built.{opposite}
 use Rattle.volumes.proofs.Box.{ends, Extreme, shifted}
 
 -- from one corner of a lattice tetrahedron to another, before any move
 unfoldable pub arm : Axis → Quarter → Vertex → Vertex → Place
 arm a e u v c = pos 256 *ℤ (pos (doubled (kind v) (offset a e v c)) -ℤ pos (doubled (kind u) (offset a e u c)))
-
--- the three corners besides u, in the order in which they wind positively as seen from u
-abbrev pub opposite : Bool → Vertex → Face Vertex
-opposite true u = faceOf (row v0 v1 v2 v3) u
-opposite false u = exchanged (faceOf (row v0 v1 v2 v3) u)
 
 pub data Vector : Type 0 where
   vector : ℤ → ℤ → ℤ → Vector

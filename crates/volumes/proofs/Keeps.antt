@@ -23,8 +23,9 @@ use Rattle.geometry.specs.Volume.{difference, cross, dot, triple, sixVolume}
 use Rattle.geometry.proofs.Determinant.{turn}
 use Rattle.volumes.proofs.Sound.{Moved}
 use Rattle.volumes.proofs.Box.{Inner, ends, Extreme, shifted, move-inner, in-boxes}
+use Rattle.volumes.proofs.Built.{opposite}
 use Rattle.volumes.proofs.Between.{counted, counted-corner}
-use Rattle.volumes.proofs.Ends.{arm, opposite, Vector, vector, flat, normal, along, atCorners, ahead, positiveAt, armsAt, test, all-positive}
+use Rattle.volumes.proofs.Ends.{arm, Vector, vector, flat, normal, along, atCorners, ahead, positiveAt, armsAt, test, all-positive}
 
 -- what the computed test says
 corners-use : (f : Vector → Bool) (l : Place) → T (atCorners f (flat l)) → (e : Place) → Extreme e → T (f (flat (shifted l e)))

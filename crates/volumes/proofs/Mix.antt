@@ -5,7 +5,6 @@ use mathlib.Core.Logic.{_⊎_, inl, inr}
 use mathlib.Core.Bool.{Bool, true, false, not, _||_}
 use native.Mathlib.Omega.{arith}
 use lib.Dec.{T, ltb, ltb→lt, eqb, eqb→eq, eqb-refl}
-use lib.ListN.{getD}
 use lib.IntN.{ℤ, pos, _+ℤ_, _-ℤ_, _*ℤ_, +ℤ-comm}
 use Rattle.basics.specs.Choice.{if_then_else_}
 use Rattle.basics.proofs.Test.{_&_, and-l, and-r, or-cases, T-true, F-false}
@@ -19,13 +18,13 @@ use Rattle.lattice.proofs.Codes.{direction-lt}
 use Rattle.moving.specs.declared.Label.{Label}
 use Rattle.moving.specs.declared.Label.the-variants.{Minus, Zero, Plus}
 use Rattle.moving.specs.Label.{isPlus, isMinus, isZero, opposed}
-use Rattle.stencil.specs.Tetrahedron.{Tetrahedron, Vertex, v0, v1, v2, v3, kind, corner, cornerNumber}
+use Rattle.stencil.specs.Tetrahedron.{Tetrahedron, Vertex, kind, corner, cornerNumber}
 use Rattle.stencil.specs.Stencil.{Entry, between, rank}
 use Rattle.stencil.specs.Id.{codeBetween, startOf, cutId, idOf}
-use Rattle.stencil.proofs.Corners.{theVertices}
 use Rattle.stencil.proofs.Valid.{Valid, corner-inside}
 use Rattle.geometry.specs.Place.{Place, latticePlace, signed}
 use Rattle.volumes.proofs.Sound.{Sound}
+use Rattle.volumes.proofs.Built.{stands, rank-same}
 use Rattle.volumes.proofs.Between.{codeIn, between-code, between-leads}
 
 -- so many 256ths of A and so many of B make E
@@ -83,23 +82,6 @@ part X Y s t d h e =
     ring (nat 256 ⊗ (nat (256 * X) ⊕ nat t ⊗ (nat (d .up) ⊖ nat (d .down)))) (nat s ⊗ nat (256 * X) ⊕ nat t ⊗ nat (256 * Y))
     (omega (arith, ap (λ (z : ℕ). t * z) e, ap (λ (z : ℕ). z * X) h))
 
--- an entry is a corner, or the cut between a plus and a minus corner, lower first
-unfoldable pub stands : (Vertex → Label) → Entry Vertex → Bool
-stands l (between u v) = eqb (rank u) (rank v) || (ltb (rank u) (rank v) & opposed (l u) (l v))
-
--- corners with one rank are one
-abbrev pub ranked : ℕ → Vertex
-ranked n = getD (theVertices .all) n v0
-
-ranked-rank : (v : Vertex) → ranked (rank v) ≡ v
-ranked-rank v0 = refl
-ranked-rank v1 = refl
-ranked-rank v2 = refl
-ranked-rank v3 = refl
-
-pub rank-same : (u v : Vertex) → T (eqb (rank u) (rank v)) → u ≡ v
-rank-same u v t = sym (ranked-rank u) ∙ ap ranked (eqb→eq (rank u) (rank v) t) ∙ ranked-rank v
-
 module _ {s : Sizes} {label : ℕ → Label} {byte : ℕ → ℕ} {place : ℕ → Place} (Q : Sound s label byte place) (t : Tetrahedron) (h : Valid s t) where
   abbrev at : Vertex → Place
   at v = place (cornerNumber s t v)
@@ -130,7 +112,7 @@ module _ {s : Sizes} {label : ℕ → Label} {byte : ℕ → ℕ} {place : ℕ �
       rests : (v : Vertex) → T (not (isZero (label (cornerNumber s t v)))) → (a : Axis) → place (cornerNumber s t v) a ≡ pos (256 * doubled (kind v) (corner t v a))
       rests v = Q .still (kind v) (corner t v) (corner-inside s t h v)
 
-  id-point : (u : Vertex) → idOf s t (between u u) ≡ cornerNumber s t u
+  pub id-point : (u : Vertex) → idOf s t (between u u) ≡ cornerNumber s t u
   unfolding idOf
   id-point u = rw (T-true (eqb (rank u) (rank u)) (eqb-refl (rank u)))
 
