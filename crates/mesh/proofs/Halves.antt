@@ -3,10 +3,8 @@ use Prim.Native.Nat.{ℕ, _≤_, _<_}
 use mathlib.Core.Path.{_≡_}
 use mathlib.Core.Logic.{_⊎_}
 use mathlib.Core.List.{List, map}
-use lib.IntN.{pos}
-use lib.Signed.{_<ℤ_}
 use lib.Dec.{T}
-use lib.ListN.{length, getD}
+use lib.ListN.{length}
 use Rattle.basics.specs.Lists.{gather}
 use Rattle.basics.proofs.Test.{Member}
 use Rattle.lattice.specs.declared.Sizes.{Sizes}
@@ -19,14 +17,11 @@ use Rattle.moving.specs.declared.Label.{Label}
 use Rattle.moving.specs.declared.Label.the-variants.{Zero, Plus}
 use Rattle.stencil.specs.Tetrahedron.{Tetrahedron, Vertex, cornerNumber, tetrahedraOf}
 use Rattle.stencil.specs.Row.{Row, mapRow}
-use Rattle.stencil.specs.Stencil.{Entry, rowsFor}
+use Rattle.stencil.specs.Stencil.{rowsFor}
 use Rattle.stencil.specs.Id.{idOf}
 use Rattle.stencil.proofs.Sign.{signed as signedRow, winds}
 use Rattle.stencil.proofs.Valid.{Valid}
-use Rattle.geometry.specs.Place.{Place}
-use Rattle.filling.specs.Mesh.{rowVolume, oriented}
 use Rattle.filling.specs.Demand.{FaceFits}
-use Rattle.volumes.proofs.Sound.{Sound}
 
 abbrev pub NoRim : Sizes → (ℕ → Label) → Type 0
 NoRim s label = (k : Kind) (i : Axis → ℕ) → Inside s k i → T (rimAt s k i) → label (number s k i) ≡ Plus → ⊥
@@ -39,16 +34,6 @@ signedRows s label = gather (signedIn s label) (tetrahedraOf s)
 
 pub faces : (s : Sizes) (label : ℕ → Label) → NoRim s label → (i : ℕ) → i < length (signedRows s label) → (v : Vertex) → FaceFits (signedRows s label) (λ id. (points s ≤ id) ⊎ ((id < points s) × (label id ≡ Zero))) i v
 faces s label h i l v = ?
-
-module _ (s : Sizes) (label : ℕ → Label) (byte : ℕ → ℕ) (place : ℕ → Place) (h : Sound s label byte place) (t : Tetrahedron) (v : Valid s t) where
-  abbrev pub rows : List (Row (Entry Vertex))
-  rows = rowsFor (λ v. label (cornerNumber s t v))
-
-  pub oriented-rows : map (oriented place) (map (mapRow (idOf s t)) rows) ≡ map (mapRow (idOf s t)) (map (signedRow (winds (t .edge))) rows)
-  oriented-rows = ?o
-
-  pub positive : (r : ℕ) (d : Row (Entry Vertex)) → r < length rows → pos 0 <ℤ rowVolume place (mapRow (idOf s t) (signedRow (winds (t .edge)) (getD rows r d)))
-  positive r d l = ?
 
 -- of the list of tetrahedra
 pub listed-valid : (s : Sizes) (t : Tetrahedron) → Member t (tetrahedraOf s) → Valid s t

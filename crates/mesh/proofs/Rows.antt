@@ -21,7 +21,8 @@ use Rattle.stencil.proofs.Valid.{Valid}
 use Rattle.filling.specs.Mesh.{rowVolume, labelsIn, rowsIn, rowsWith, meshOf}
 use Rattle.filling.specs.Demand.{nthRow}
 use Rattle.volumes.proofs.Sound.{Sound}
-use Rattle.mesh.proofs.Halves.{signedIn, signedRows, oriented-rows, positive, listed-valid}
+use Rattle.volumes.proofs.Volumes.{oriented-rows, positive}
+use Rattle.mesh.proofs.Halves.{signedIn, signedRows, listed-valid}
 use Rattle.mesh.proofs.Bridge.{finalLabel, finalPlace}
 
 module _ (b : Block) (s : Sound (b .sizes) (finalLabel b) (cutByte b) (finalPlace b)) where
@@ -29,7 +30,7 @@ module _ (b : Block) (s : Sound (b .sizes) (finalLabel b) (cutByte b) (finalPlac
   unfolding rowsWith rowsIn signedRows signedIn
   mesh-is =
       gather-same (rowsIn b (stateOf b)) (signedIn (b .sizes) (finalLabel b)) (tetrahedraOf (b .sizes))
-      (λ t m. oriented-rows (b .sizes) (finalLabel b) (cutByte b) (finalPlace b) s t (listed-valid (b .sizes) t m))
+      (λ t m. oriented-rows s t (listed-valid (b .sizes) t m))
 
   -- a row of one tetrahedron
   row-positive : (t : Tetrahedron) → Valid (b .sizes) t → (r : ℕ) → r < length (signedIn (b .sizes) (finalLabel b) t)
@@ -37,7 +38,7 @@ module _ (b : Block) (s : Sound (b .sizes) (finalLabel b) (cutByte b) (finalPlac
   unfolding signedIn
   row-positive t v r h =
       rw (map-at (mapRow (idOf (b .sizes) t)) turned r any (row 0 0 0 0) long, map-at (signed (winds (t .edge))) rows r any any inside)
-      (positive (b .sizes) (finalLabel b) (cutByte b) (finalPlace b) s t v r any inside)
+      (positive s t v r inside any)
     where
       rows : List (Row (Entry Vertex))
       rows = rowsFor (labelsIn b (stateOf b) t)

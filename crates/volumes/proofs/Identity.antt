@@ -36,7 +36,7 @@ share-of {a} {b} {x} {y} {z} s t =
           ring (nat (b * a) ⊗ int x) (nat b ⊗ (nat a ⊗ int x)) (omega arith) ∙ ap (λ (u : ℤ). pos b *ℤ u) (s .is)
           ∙ ring (nat b ⊗ (nat (s .parts) ⊗ int y)) (nat (s .parts) ⊗ (nat b ⊗ int y)) (omega arith)
           ∙ ap (λ (u : ℤ). pos (s .parts) *ℤ u) (t .is)
-          ∙ ring (nat (s .parts) ⊗ (nat (t .parts) ⊗ int z)) (nat (s .parts * t .parts) ⊗ int z) (omega arith)
+          ∙ ring (nat (s .parts) ⊗ (nat (t .parts) ⊗ int z)) (nat (s .parts * t .parts) ⊗ int z) (omega arith);
     }
 
 pub share-positive : {a : ℕ} {x y : ℤ} → Share a x y → pos 0 <ℤ y → pos 0 <ℤ x
@@ -69,14 +69,14 @@ module _ (P : Vertex → Place) (w : Vertex) where
         record {
           parts = mix .m + mix .n;
           some = omega (arith, mix .m-some);
-          is = split mix ∙ ring (nat (mix .m) ⊗ int (g (from y)) ⊕ nat (mix .n) ⊗ int (g (from y))) (nat (mix .m + mix .n) ⊗ int (g (from y))) (omega arith)
+          is = split mix ∙ ring (nat (mix .m) ⊗ int (g (from y)) ⊕ nat (mix .n) ⊗ int (g (from y))) (nat (mix .m + mix .n) ⊗ int (g (from y))) (omega arith);
         }
     hung {y = y} {o = o} vanishes (there p) mix =
         record {
           parts = mix .n;
           some = mix .n-some;
           is = split mix ∙ ap (λ (z : ℤ). pos (mix .m) *ℤ z +ℤ pos (mix .n) *ℤ g (from y)) (vanishes o p)
-              ∙ ring (nat (mix .m) ⊗ nat 0 ⊕ nat (mix .n) ⊗ int (g (from y))) (nat (mix .n) ⊗ int (g (from y))) (omega arith)
+              ∙ ring (nat (mix .m) ⊗ nat 0 ⊕ nat (mix .n) ⊗ int (g (from y))) (nat (mix .n) ⊗ int (g (from y))) (omega arith);
         }
 
   -- what came before counts for nothing

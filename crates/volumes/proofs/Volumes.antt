@@ -110,9 +110,10 @@ module _ {s : Sizes} {label : ℕ → Label} {byte : ℕ → ℕ} {place : ℕ �
       → (o : Vertex) × Member o (y ∷ before) × Mix (at o) (at y) (place (idOf s t e))
   unfolding fits hangs
   fits-use (between u v) before y f =
-      elim (or-cases (same v y & any (same u) (y ∷ before)) _ (and-r (stands labels (between u v)) _ f))
-      [ inl p ↦ (u, any-same u (y ∷ before) (and-r _ _ p), subst (λ (z : Vertex). Mix (at u) (at z) (place (idOf s t (between u v)))) (rank-same v y (and-l _ _ p)) mix)
-      | inr p ↦ (v, any-same v (y ∷ before) (and-r _ _ p), subst (λ (z : Vertex). Mix (at v) (at z) (place (idOf s t (between u v)))) (rank-same u y (and-l _ _ p)) (flip mix)) ]
+      elim (or-cases (same v y & any (same u) (y ∷ before)) _ (and-r (stands labels (between u v)) _ f)) [
+        | inl p ↦ (u, any-same u (y ∷ before) (and-r _ _ p), subst (λ (z : Vertex). Mix (at u) (at z) (place (idOf s t (between u v)))) (rank-same v y (and-l _ _ p)) mix)
+        | inr p ↦ (v, any-same v (y ∷ before) (and-r _ _ p), subst (λ (z : Vertex). Mix (at v) (at z) (place (idOf s t (between u v)))) (rank-same u y (and-l _ _ p)) (flip mix))
+      ]
     where
       mix : Mix (at u) (at v) (place (idOf s t (between u v)))
       mix = entry-mix Q t h u v (and-l _ _ f)
@@ -123,9 +124,10 @@ module _ {s : Sizes} {label : ℕ → Label} {byte : ℕ → ℕ} {place : ℕ �
   first-use : (e : Entry Vertex) (w : Vertex) → T (fits labels [] w e) → place (idOf s t e) ≡ at w
   unfolding fits hangs
   first-use (between u v) w f =
-      elim (or-cases (same v w & any (same u) (w ∷ [])) _ (and-r (stands labels (between u v)) _ f))
-      [ inl p ↦ at-both (only (any-same u (w ∷ []) (and-r _ _ p))) (rank-same v w (and-l _ _ p))
-      | inr p ↦ at-both (rank-same u w (and-l _ _ p)) (only (any-same v (w ∷ []) (and-r _ _ p))) ]
+      elim (or-cases (same v w & any (same u) (w ∷ [])) _ (and-r (stands labels (between u v)) _ f)) [
+        | inl p ↦ at-both (only (any-same u (w ∷ []) (and-r _ _ p))) (rank-same v w (and-l _ _ p))
+        | inr p ↦ at-both (rank-same u w (and-l _ _ p)) (only (any-same v (w ∷ []) (and-r _ _ p)))
+      ]
     where
       at-both : u ≡ w → v ≡ w → place (idOf s t (between u v)) ≡ at w
       at-both p q = (λ i. place (idOf s t (between (p i) (q i)))) ∙ ap place (id-point Q t h w)
@@ -185,7 +187,7 @@ module _ {s : Sizes} {label : ℕ → Label} {byte : ℕ → ℕ} {place : ℕ �
   oriented-rows =
       map-map (oriented place) (mapRow (idOf s t)) rows
       ∙ map-same (λ r. oriented place (mapRow (idOf s t) r)) (λ r. mapRow (idOf s t) (signed (winds (t .edge)) r)) rows
-        (λ r m. oriented-by place (idOf s t) (Bool·beq (winds (t .edge)) (isEven r)) r (row-sign r (row-built m)))
+      (λ r m. oriented-by place (idOf s t) (Bool·beq (winds (t .edge)) (isEven r)) r (row-sign r (row-built m)))
       ∙ sym (map-map (mapRow (idOf s t)) (signed (winds (t .edge))) rows)
 
   -- every six-volume, as the rows are written, is above zero
