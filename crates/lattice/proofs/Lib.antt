@@ -1,4 +1,6 @@
 pub mod Axes
+pub mod Bounds
 pub mod Number
 pub mod Codes
 pub mod Edge
+pub mod Sites
