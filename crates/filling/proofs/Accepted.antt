@@ -15,7 +15,7 @@ use Rattle.lattice.specs.declared.Sizes.{Sizes}
 use Rattle.lattice.specs.Axis.{Axis, along-x, along-y, along-z}
 use Rattle.lattice.specs.Counts.{size, largest, sizesFit, Sized, points}
 use Rattle.lattice.proofs.Axes.{everywhere-use, everywhere-i}
-use Rattle.moving.specs.Block.{Block, cutByte}
+use Rattle.moving.specs.Block.{Block, cutByte, Tabled}
 use Rattle.filling.specs.Mesh.{table}
 use Rattle.filling.specs.Check.{rimFault, crosses, cutFault, firstRim, firstCut}
 use Rattle.filling.specs.Fill.{Outcome, refused, written, fill}
@@ -27,6 +27,9 @@ pub record Accepted (b : Block) : Type 0 where
   pub cuts-long : length (b .cuts) ≡ 7 * points (b .sizes)
   pub rim-fine : (p : ℕ) → p < points (b .sizes) → rimFault b p ≡ false
   pub cuts-fine : (o : ℕ) → o < 7 * points (b .sizes) → cutFault b o ≡ 0
+
+pub accepted-tabled : (b : Block) → Accepted b → Tabled b
+accepted-tabled b h = record { sized = h .sized; samples-long = h .samples-long; cuts-long = h .cuts-long }
 
 -- sizes that fit, as a test and as a fact
 fits : Sizes → Axis → Bool
