@@ -4,12 +4,15 @@ use native.Mathlib.Omega.{arith}
 use native.Mathlib.Nat.{not-suc-le-zero}
 use mathlib.Core.Path.{_≡_, refl, sym, _∙_, ap, subst}
 use mathlib.Core.Logic.{_⊎_, inl, inr}
+use mathlib.Core.Bool.{Bool, true, false, not}
 use mathlib.Core.List.{List, [], _∷_, _++_}
+use lib.Dec.{T, T-not}
 use lib.ListN.{length, getD, length-append, List·getD-append}
 use lib.Seq.{getD-append-add}
 use Rattle.basics.specs.Lists.{gather, from, below}
-use Rattle.basics.proofs.Test.{Member, here, there, lt-or}
-use Rattle.basics.proofs.Tested.{append-l, append-r}
+use Rattle.basics.proofs.Test.{_&_, and-l, and-r, every, every-use, Member, here, there, lt-or}
+use Rattle.basics.proofs.Finite.{Finite}
+use Rattle.basics.proofs.Tested.{append-l, append-r, same, same-i}
 
 -- a list in which nothing stands twice
 pub data NoRepeats {A : Type 0} : List A → Type 0 where
@@ -30,6 +33,18 @@ module _ {A : Type 0} where
   append-once [] m p q d = q
   append-once (x ∷ l) m (more n p) q d =
       more {x = x} (λ i. elim (append-cases l {m = m} i) [ inl j ↦ n j | inr j ↦ d x here j ]) (append-once l m p q (λ a i j. d a (there i) j))
+
+-- a list of elements of a finite type, by a test
+module _ {A : Type 0} (F : Finite A) where
+  abbrev pub distinct : List A → Bool
+  distinct [] = true
+  distinct (x ∷ l) = every (λ y. not (same F x y)) l & distinct l
+
+  pub distinct-once : (l : List A) → T (distinct l) → NoRepeats l
+  distinct-once [] t = empty
+  distinct-once (x ∷ l) t =
+      more {x = x} (λ m. T-not (same F x x) (every-use (λ y. not (same F x y)) l (and-l _ _ t) m) (same-i F x x refl))
+      (distinct-once l (and-r (every (λ y. not (same F x y)) l) _ t))
 
 -- the numbers below a bound
 from-bounds : {k : ℕ} (a n : ℕ) → Member k (from a n) → (a ≤ k) × (k < a + n)

@@ -1,3 +1,4 @@
 pub mod Corners
 pub mod Sign
 pub mod Valid
+pub mod Listed
