@@ -37,7 +37,7 @@ use Rattle.geometry.specs.Place.{Place, latticePlace, signed, cutPlace, pointPl
 use Rattle.filling.specs.Check.{rimFault, crossesTo, crosses, cutFault}
 use Rattle.filling.proofs.Accepted.{Accepted}
 use Rattle.volumes.proofs.Sound.{reach, Moved, Sound}
-use Rattle.mesh.proofs.Halves.{NoRim}
+use Rattle.faces.proofs.Signed.{NoRim}
 use Rattle.mesh.proofs.Warp.{Bytes, pointOf, rest-number, moved-within, still-stands}
 
 -- after moving: the label of a point, and the place of an id

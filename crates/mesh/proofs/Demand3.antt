@@ -18,7 +18,7 @@ use Rattle.filling.specs.Fill.{fill}
 use Rattle.filling.specs.Demand.{FaceFits, shared, boundary, Conforms, OnSkin, a-cut, a-moved-point, a-zero-sample}
 use Rattle.filling.proofs.Accepted.{Accepted, passed-all, filled-accepted}
 use Rattle.filling.proofs.Written.{rowsRead, rows-read, state-written}
-use Rattle.mesh.proofs.Halves.{faces}
+use Rattle.faces.proofs.Faces.{faces}
 use Rattle.mesh.proofs.Warp.{Bytes}
 use Rattle.mesh.proofs.Bridge.{finalLabel, finalPlace, sound, no-rim}
 use Rattle.mesh.proofs.Rows.{mesh-is, rows-positive}

@@ -1,4 +1,3 @@
-pub mod Halves
 pub mod Warp
 pub mod Bridge
 pub mod Rows
