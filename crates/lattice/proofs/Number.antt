@@ -68,7 +68,7 @@ module _ (m : Axis → ℕ) where
   unfolding linear cell
   linear-cell c = rw (mod-add-div (c / m along-x) (m along-y)) (mod-add-div c (m along-x))
 
-  cell-in : (c : ℕ) → c < cells m → In m (cell m c)
+  pub cell-in : (c : ℕ) → c < cells m → In m (cell m c)
   unfolding cells cell
   cell-in c h = go
     where

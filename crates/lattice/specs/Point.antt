@@ -6,7 +6,6 @@ use Rattle.basics.specs.Choice.{if_then_else_}
 use Rattle.lattice.specs.declared.Sizes.{Sizes}
 use Rattle.lattice.specs.declared.Kind.{Kind}
 use Rattle.lattice.specs.declared.Kind.the-variants.{Corner, Centre}
-use Rattle.lattice.specs.declared.Site.{Site}
 use Rattle.lattice.specs.Axis.{Axis, along-x, along-y, along-z, xyz}
 use Rattle.lattice.specs.Counts.{grid, corners}
 
@@ -45,14 +44,3 @@ cellOf s Centre p = cell (grid s Centre) (p - corners s)
 
 abbrev pub indexOf : Sizes → ℕ → Axis → ℕ
 indexOf s p = cellOf s (kindOf s p) p
-
--- a decoded point of the code: its indices; and its own number with the number that its indices have in the other kind, from
--- which every neighbour is a few strides away
-abbrev pub index : Site → Axis → ℕ
-index q = xyz (q .x) (q .y) (q .z)
-
-unfoldable pub siteAt : Sizes → Kind → (Axis → ℕ) → Site
-siteAt s k i = record { kind = k; x = i along-x; y = i along-y; z = i along-z; own = number s k i; across = number s (other k) i }
-
-abbrev pub siteOf : Sizes → ℕ → Site
-siteOf s p = siteAt s (kindOf s p) (indexOf s p)

@@ -1,4 +1,8 @@
-// The lattice of a block: points, numbers, neighbours, the rim.
+// The lattice of a block: its points and their numbers, edges, the rim.
+pub mod counts;
+pub mod edges;
+pub mod numbers;
+pub mod rim;
 
 // The sizes of a block, in cubes.
 pub struct Sizes {
@@ -28,4 +32,14 @@ pub struct Site {
 pub enum Near {
     At(usize),
     Nothing,
+}
+
+// How far a code leads up and down along each axis, in doubled coordinates.
+pub struct Shift {
+    pub ux: usize,
+    pub uy: usize,
+    pub uz: usize,
+    pub dx: usize,
+    pub dy: usize,
+    pub dz: usize,
 }
