@@ -1,11 +1,10 @@
 -- The faces' half of demand 3, for any labels without a plus on the rim: every face of every row is shared with one other row, wound the
 -- opposite way, or with none, and then its corners are cuts or points with the label zero. Assumes nothing.
-use Prim.Native.Nat.{ℕ, zero, suc, _≤_, _<_}
-use native.Mathlib.Nat.{not-suc-le-zero, le-of-suc-le-suc}
-use mathlib.Core.Path.{_≡_, refl, sym, _∙_, ap, subst, subst₂}
+use Prim.Native.Nat.{ℕ, _≤_, _<_}
+use mathlib.Core.Path.{_≡_, sym, _∙_, ap, subst, subst₂}
 use mathlib.Core.Logic.{_⊎_, inl, inr}
-use mathlib.Core.List.{List, [], _∷_, map}
-use lib.ListN.{length, getD, length-map}
+use lib.ListN.{length, length-map}
+use Rattle.basics.proofs.Mapped.{map-at}
 use Rattle.basics.proofs.Gather.{Found, found-member, found-in, found-lt, found-get, found-at, find, found-same, found-once}
 use Rattle.lattice.specs.declared.Sizes.{Sizes}
 use Rattle.lattice.specs.Counts.{points}
@@ -28,11 +27,6 @@ use Rattle.faces.proofs.LatticeComplex.{OnSkin, lattice, lattice-fits}
 use Rattle.faces.proofs.Ids.{id-inj}
 use Rattle.faces.proofs.Signed.{signedIn, signedRows, NoRim}
 
-get-map : {A B : Type 0} (f : A → B) (l : List A) (i : ℕ) (d : A) (e : B) → i < length l → getD (map f l) i e ≡ f (getD l i d)
-get-map f [] i d e h = absurd (not-suc-le-zero h)
-get-map f (x ∷ l) zero d e h = refl
-get-map f (x ∷ l) (suc i) d e h = get-map f l i d e (le-of-suc-le-suc h)
-
 module _ (s : Sizes) (label : ℕ → Label) where
   -- the k-th row of the block is the r-th of the tetrahedron t
   abbrev At : ℕ → Tetrahedron → ℕ → Type 0
@@ -52,7 +46,7 @@ module _ (s : Sizes) (label : ℕ → Label) where
   unfolding signedRows signedIn signedFor rowIn
   at-row {r = r} {t = t} a =
       found-get (signedIn s label) (row 0 0 0 0) a
-      ∙ get-map (mapRow (idOf s t)) (cellRows (lattice s label) t) r noRow (row 0 0 0 0) (at-inside a)
+      ∙ map-at (mapRow (idOf s t)) (cellRows (lattice s label) t) r noRow (row 0 0 0 0) (at-inside a)
 
   at-of : (k : ℕ) → k < length (signedRows s label) → (t : Tetrahedron) × (r : ℕ) × At k t r
   unfolding signedRows
