@@ -3,3 +3,4 @@ pub mod Turn
 pub mod Rows
 pub mod Sign
 pub mod Valid
+pub mod Listed
