@@ -5,7 +5,6 @@ use mathlib.Core.Path.{_≡_, refl}
 use mathlib.Core.List.{[], _∷_}
 use lib.IntN.{ℤ, pos}
 use Rattle.basics.specs.Table.{Entry, _:=_, tableOf}
-use Rattle.lattice.specs.declared.Sizes.{Sizes}
 use Rattle.lattice.specs.Axis.{Axis, along-x, along-y, along-z, xyz}
 use Rattle.lattice.specs.Counts.{cells, points}
 use Rattle.lattice.specs.Point.{linear, cell, kindOf}
