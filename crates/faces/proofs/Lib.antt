@@ -1,0 +1,4 @@
+pub mod Windings
+pub mod Pattern
+pub mod PatternTests
+pub mod PatternLaws

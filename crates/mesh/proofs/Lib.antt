@@ -1,0 +1,5 @@
+pub mod Halves
+pub mod Warp
+pub mod Bridge
+pub mod Rows
+pub mod Demand3
