@@ -1,1 +1,5 @@
-
+pub mod Labels
+pub mod Steps
+pub mod Faults
+pub mod Points
+pub mod Crossing

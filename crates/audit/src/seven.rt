@@ -13,12 +13,12 @@ pub fn point_fault(bytes: &[u8], must: [bool; 7]) -> Fault
     ensures { λ r. ⌜ offsetOf r ≤ 6 ⌝ }
 {
     for d in 0..7 {
-        if bytes[d] == 0 {
-            if must[d] {
+        if must[d] {
+            if bytes[d] == 0 {
                 return Fault::Gap(d);
             }
         } else {
-            if !must[d] {
+            if bytes[d] != 0 {
                 return Fault::Stray(d);
             }
         }

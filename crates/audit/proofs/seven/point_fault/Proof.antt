@@ -1,53 +1,62 @@
+-- The loop's invariant: the search from d on finds what the search of all seven finds. Assumes nothing.
+use Prim.Native.Nat.{_≤_, _-_}
+use native.Mathlib.Omega.{arith}
+use mathlib.Core.Path.{_≡_, refl, sym, _∙_}
+use mathlib.Core.Logic.{⊎-elim}
+use mathlib.Core.Bool.{false}
+use lib.ListN.{getD}
+use Rattle.audit.specs.Faults.{firstFault, sevenFault}
+use Rattle.audit.proofs.Faults.{gap-at, none-at, stray-at, cut-at, fault-over, fault-end}
 use Rattle.audit.proofs.seven.point_fault.Statement.{statement}
 use Rattle.audit.proofs.seven.point_fault.Tie as tie
-use Rattle.audit.proofs.seven.point_fault.Reads as reads
-use Rattle.audit.proofs.seven.point_fault.Lts as lts
 
 abbrev Inv-loop : tie.InvT-loop
-Inv-loop bytes must d₀ d = ?
+Inv-loop bytes must d₀ d =
+    (d ≤ 7) × (firstFault (λ e. getD must e false) (λ e. getD bytes e 0) (7 - d) d ≡ sevenFault must bytes)
 
 abbrev μ-loop : tie.MeasureT-loop
-μ-loop bytes must d₀ d = ?
+μ-loop bytes must d₀ d = 7 - d
 
--- src/seven.rt:15:5
 loop-holds : tie.Need-loop-holds Inv-loop μ-loop
-loop-holds c = ?
+loop-holds c = (omega arith, refl)
 
--- src/seven.rt:16:12
-shared-slice-read-if1 : tie.Need-shared-slice-read-if1 Inv-loop μ-loop
-shared-slice-read-if1 c = ?
+array-read-if1 : tie.Need-array-read-if1 Inv-loop μ-loop
+array-read-if1 c = omega arith
 
--- src/seven.rt:17:16
-array-read-if2 : tie.Need-array-read-if2 Inv-loop μ-loop
-array-read-if2 c = ?
+shared-slice-read-if2 : tie.Need-shared-slice-read-if2 Inv-loop μ-loop
+shared-slice-read-if2 c = omega arith
 
--- src/seven.rt:18:17
 returns : tie.Need-returns Inv-loop μ-loop
-returns c = ?
+returns c =
+    (fault-over _ _ 7 _ (c .before .before .before .loop-test .taken) (gap-at _ _ (c .if2 .taken) (c .before .before .if1 .taken))
+    ∙ c .before .before .before .before .loop .inv .1, omega arith)
 
--- src/seven.rt:21:17
-array-read-if3 : tie.Need-array-read-if3 Inv-loop μ-loop
-array-read-if3 c = ?
+shared-slice-read-if3 : tie.Need-shared-slice-read-if3 Inv-loop μ-loop
+shared-slice-read-if3 c = omega arith
 
--- src/seven.rt:22:17
 returns-2 : tie.Need-returns-2 Inv-loop μ-loop
-returns-2 c = ?
+returns-2 c =
+    (fault-over _ _ 7 _ (c .before .before .before .loop-test .taken) (stray-at _ _ (c .if3 .taken) (c .before .before .if1 .left))
+    ∙ c .before .before .before .before .loop .inv .1, omega arith)
 
--- src/seven.rt:15:9
 add-d : tie.Need-add-d Inv-loop μ-loop
-add-d c = ?
+add-d c = omega arith
 
--- src/seven.rt:15:5
 loop-less : tie.Need-loop-less Inv-loop μ-loop
-loop-less c = ?
+loop-less c = omega arith
 
--- src/seven.rt:15:5
 loop-again : tie.Need-loop-again Inv-loop μ-loop
-loop-again c = ?
+loop-again c =
+    let h = c .before .loop-test .taken in (
+      omega arith,
+      ⊎-elim
+          (λ w. fault-over _ _ 7 _ h (cut-at _ _ (w .2 .left) (w .0 .taken)))
+          (λ w. fault-over _ _ 7 _ h (none-at _ _ (w .2 .left) (w .0 .left)))
+          (c .if1 .came) ∙ c .before .before .loop .inv .1,
+    )
 
--- src/seven.rt:10:1
 returns-3 : tie.Need-returns-3 Inv-loop μ-loop
-returns-3 c = ?
+returns-3 c = (sym (fault-end _ _ 7 _ (c .loop-test .left)) ∙ c .before .loop .inv .1, omega arith)
 
 pub point-fault-spec : {M : Type 1} → statement M
 point-fault-spec =
@@ -56,10 +65,10 @@ point-fault-spec =
     Inv-loop
     μ-loop
     loop-holds
-    shared-slice-read-if1
-    array-read-if2
+    array-read-if1
+    shared-slice-read-if2
     returns
-    array-read-if3
+    shared-slice-read-if3
     returns-2
     add-d
     loop-less
