@@ -1,8 +1,7 @@
 -- Which edges cross the skin: no cut byte is asked, and a far end is one sample more. Assumes nothing.
 use Prim.Native.Nat.{ℕ, _+_, _*_, _-_, _/_, _%_, _≤_, _<_}
 use native.Mathlib.Omega.{arith}
-use native.Mathlib.Nat.{add-zero}
-use mathlib.Core.Path.{_≡_, refl, sym, ap, ap₂, _∙_}
+use mathlib.Core.Path.{_≡_, refl, sym, ap, ap₂, subst, _∙_}
 use mathlib.Core.Bool.{Bool, true, false}
 use mathlib.Core.List.{List, []}
 use lib.IntN.{ℤ}
@@ -52,6 +51,12 @@ module _ (b : Block) where
 pub answer : (b : Block) → CutAnswer b (faultsFrom b (7 * points (b .sizes)) 0)
 unfolding cutFault
 answer b = let f = found (mustAt b) (cutByte b) (7 * points (b .sizes)) 0 (7 * points (b .sizes)) (omega arith) in record { place = f .place; number = f .number }
+
+pub answer-is : (b : Block) (n : ℕ) {r : Fault} → n ≡ points (b .sizes) → r ≡ faultsFrom b (7 * n) 0 → CutAnswer b r
+answer-is b n e f = subst (CutAnswer b) (sym (f ∙ ap (λ (k : ℕ). faultsFrom b (7 * k) 0) e)) (answer b)
+
+pub all-left : (b : Block) (n : ℕ) → faultsFrom b (7 * n - 0) 0 ≡ faultsFrom b (7 * n) 0
+all-left b n = let e : 7 * n - 0 ≡ 7 * n = omega arith in ap (λ (k : ℕ). faultsFrom b k 0) e
 
 module _ (s : Sizes) (samples : List ℤ) (cuts : List ℕ) where
   -- one more point: its seven bytes, and what is left

@@ -70,7 +70,7 @@ module _ (must : ℕ → Bool) (byte : ℕ → ℕ) where
 
   found-step : (o e k : ℕ) (r : Fault) → o < e → Found e k r → (m z : Bool) → must o ≡ m → eqb (byte o) 0 ≡ z
       → Found e (if not (eqb (if m then (if z then 6 else 0) else (if z then 0 else 7)) 0) then o else k)
-          (orElse (if m then (if z then Gap o else Fine) else (if z then Fine else Stray o)) r)
+      (orElse (if m then (if z then Gap o else Fine) else (if z then Fine else Stray o)) r)
   found-step o e k r h f true true p q = record { place = refl; number = simp (lt-ltb _ _ h, p, q) }
   found-step o e k r h f true false p q = f
   found-step o e k r h f false true p q = f

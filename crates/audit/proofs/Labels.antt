@@ -1,11 +1,11 @@
 -- Signs of samples, as the code tests them: on the number read back from its bits. Assumes nothing.
-use Prim.Native.Nat.{zero, suc}
+use Prim.Native.Nat.{zero, suc, _^_, _<_}
 use native.Mathlib.Omega.{arith}
 use mathlib.Core.Path.{_≡_, refl, sym, ap, subst, _∙_}
 use mathlib.Core.Bool.{Bool, true, false}
 use lib.Dec.{T}
 use lib.IntN.{ℤ, pos, negsuc}
-use lib.Signed.{ltZ}
+use lib.Signed.{mag, ltZ}
 use borrow.Author.Tests.{lt-ltb, le-ltb, ne-eqb}
 use mir.Syntax.{w16}
 use mir.Val.{ofZ, toZ, SFits}
@@ -32,6 +32,17 @@ module _ (x : ℤ) (f : SFits w16 x) where
 
   pub minus-test : ltZ (toZ w16 (ofZ w16 x)) (pos 0) ≡ isMinus (labelOf x)
   minus-test = ap (λ (z : ℤ). ltZ z (pos 0)) (toZ-ofZ w16 x f) ∙ beneath x
+
+-- a sample that was read and handed on
+handed : (x : ℤ) → mag x < 2 ^ 15 → toZ w16 (ofZ w16 x) ≡ x
+handed x h = toZ-ofZ w16 x (record { sfits = h })
+
+pub plus-handed : (x : ℤ) → mag x < 2 ^ 15 → isPlus (labelOf (toZ w16 (ofZ w16 x))) ≡ isPlus (labelOf x)
+plus-handed x h = ap (λ (z : ℤ). isPlus (labelOf z)) (handed x h)
+
+pub opposed-handed : (x y : ℤ) → mag x < 2 ^ 15 → mag y < 2 ^ 15
+    → opposed (labelOf (toZ w16 (ofZ w16 x))) (labelOf (toZ w16 (ofZ w16 y))) ≡ opposed (labelOf x) (labelOf y)
+opposed-handed x y h g = λ i. opposed (labelOf (handed x h i)) (labelOf (handed y g i))
 
 false-true : {A : Type 0} → _≡_ {A = Bool} false true → A
 false-true e = absurd (subst T (sym e) tt)

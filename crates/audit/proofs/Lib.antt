@@ -3,3 +3,4 @@ pub mod Steps
 pub mod Faults
 pub mod Points
 pub mod Crossing
+pub mod Outside

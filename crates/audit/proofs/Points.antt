@@ -13,7 +13,7 @@ use Rattle.lattice.specs.Point.{other, Inside, linear, number, kindOf, indexOf}
 use Rattle.lattice.specs.Edge.{near, neighbour}
 use Rattle.lattice.specs.Rim.{rimAt, rim}
 use Rattle.lattice.specs.Site.{oddOf, index, siteAt, siteOf, Sited}
-use Rattle.lattice.proofs.Number.{kind-number, index-number, number-of, inside-of}
+use Rattle.lattice.proofs.Number.{number-lt, kind-number, index-number, number-of, inside-of}
 use Rattle.lattice.proofs.Sites.{own-grid, site-is}
 
 index-at : (s : Sizes) (k : Kind) (i : Axis → ℕ) (a : Axis) → index (siteAt s k i) a ≡ i a
@@ -69,6 +69,14 @@ module _ {s : Sizes} {p : ℕ} {q : Site} (w : Stands s p q) where
           record { x-in = h along-x; y-in = h along-y; z-in = h along-z; own-is = same k i; across-is = same (other k) i }
 
 -- the first point, and the next one
+pub points-some : (s : Sizes) → Sized s → 0 < points s
+points-some s h = omega (arith, number-lt s Centre (xyz 0 0 0) first)
+  where
+    first : Inside s Centre (xyz 0 0 0)
+    first along-x = omega arith
+    first along-y = omega arith
+    first along-z = omega arith
+
 pub stands-first : {s : Sizes} {q : Site} → q ≡ siteOf s 0 → 0 < points s → Stands s 0 q
 stands-first e h = record { is = e; below = h }
 

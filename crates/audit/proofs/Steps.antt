@@ -1,7 +1,7 @@
 -- A search below a bound, a number at a time: what is left to search finds what the whole search finds. Assumes nothing.
 use Prim.Native.Nat.{ℕ, zero, suc, _+_, _-_, _≤_, _<_}
 use native.Mathlib.Omega.{arith}
-use mathlib.Core.Path.{_≡_, refl, sym}
+use mathlib.Core.Path.{_≡_, refl, ap}
 use mathlib.Core.Bool.{Bool, true, false}
 use Rattle.basics.specs.Choice.{if_then_else_}
 use Rattle.basics.specs.Lists.{firstFrom}
@@ -18,3 +18,6 @@ module _ (f : ℕ → Bool) (n p : ℕ) where
   pub search-end : n ≤ p → firstFrom f (n - p) p ≡ p
   unfolding firstFrom
   search-end h = let e : n - p ≡ 0 = omega arith in rw e refl
+
+pub search-all : (f : ℕ → Bool) (n : ℕ) → firstFrom f (n - 0) 0 ≡ firstFrom f n 0
+search-all f n = let e : n - 0 ≡ n = omega arith in ap (λ (k : ℕ). firstFrom f k 0) e

@@ -12,6 +12,7 @@ use Rattle.lattice.specs.Site.{index, siteOf}
 use Rattle.lattice.proofs.Bounds.{points-small}
 use Rattle.lattice.proofs.Edge.{neighbour-lt}
 use Rattle.filling.specs.Check.{crossesTo}
+use Rattle.audit.proofs.Labels.{opposed-handed}
 use Rattle.audit.proofs.Points.{Stands, stands, sited, near-at}
 use borrow.Author.Needs.{needs}
 use Rattle.audit.proofs.cuts.is_crossing.Statement.{statement}
@@ -61,7 +62,7 @@ returns : tie.Need-returns
 unfolding crossesTo
 returns c =
     let a = c .before .before .before .before .before .before .before in
-    c .opposite .ensures
+    c .opposite .ensures ∙ opposed-handed _ _ (c .before .before .opposite-arg .given) (c .before .opposite-arg2 .given)
     ∙ ap (crossesTo _ _) (sym (c .before .before .before .before .end .given .1) ∙ c .before .before .before .before .before .before .neighbour .ensures
     ∙ near-at (stands (a .args .s) (a .args .q) (a .pre .1 .1 .0 .0) (a .pre .1 .1 .0 .1)) _)
 
