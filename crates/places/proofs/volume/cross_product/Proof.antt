@@ -1,47 +1,63 @@
+-- Every product and every difference of two stays in its box. Assumes nothing.
+use Rattle.geometry.specs.Volume.{cross}
+use Rattle.places.specs.Places.{placeAt}
+use Rattle.places.proofs.Box.{held, mul-is, sub-is, mul-fits, sub-fits, place-is, box-of}
 use Rattle.places.proofs.volume.cross_product.Statement.{statement}
 use Rattle.places.proofs.volume.cross_product.Tie as tie
-use Rattle.places.proofs.volume.cross_product.Reads as reads
-use Rattle.places.proofs.volume.cross_product.Lts as lts
 
--- src/volume.rt:27:12
 mul-t3 : tie.Need-mul-t3
-mul-t3 c = ?
+mul-t3 c =
+    let a = c .before .before .before .before in
+    mul-fits (held (a .pre .0 .in-y) tt) (held (a .pre .1 .in-z) tt) tt
 
--- src/volume.rt:27:24
 mul-t4 : tie.Need-mul-t4
-mul-t4 c = ?
+mul-t4 c =
+    let a = c .before .before .before .before .before .before .before .before in
+    mul-fits (held (a .pre .0 .in-z) tt) (held (a .pre .1 .in-y) tt) tt
 
--- src/volume.rt:27:12
 sub-t5 : tie.Need-sub-t5
-sub-t5 c = ?
+sub-t5 c =
+    let a = c .before .before .before .before .before .before .before .before in
+    sub-fits (mul-is (held (a .pre .0 .in-y) tt) (held (a .pre .1 .in-z) tt) tt) (mul-is (held (a .pre .0 .in-z) tt) (held (a .pre .1 .in-y) tt) tt) tt
 
--- src/volume.rt:28:12
 mul-t6 : tie.Need-mul-t6
-mul-t6 c = ?
+mul-t6 c =
+    let a = c .before .before .before .before .before .before .before .before .before .before .before .before in
+    mul-fits (held (a .pre .0 .in-z) tt) (held (a .pre .1 .in-x) tt) tt
 
--- src/volume.rt:28:24
 mul-t7 : tie.Need-mul-t7
-mul-t7 c = ?
+mul-t7 c =
+    let a = c .before .before .before .before .before .before .before .before .before .before .before .before .before .before .before .before in
+    mul-fits (held (a .pre .0 .in-x) tt) (held (a .pre .1 .in-z) tt) tt
 
--- src/volume.rt:28:12
 sub-t8 : tie.Need-sub-t8
-sub-t8 c = ?
+sub-t8 c =
+    let a = c .before .before .before .before .before .before .before .before .before .before .before .before .before .before .before .before in
+    sub-fits (mul-is (held (a .pre .0 .in-z) tt) (held (a .pre .1 .in-x) tt) tt) (mul-is (held (a .pre .0 .in-x) tt) (held (a .pre .1 .in-z) tt) tt) tt
 
--- src/volume.rt:29:12
 mul-t9 : tie.Need-mul-t9
-mul-t9 c = ?
+mul-t9 c =
+    let a = c .before .before .before .before .before .before .before .before .before .before .before .before .before .before .before .before .before .before .before .before in
+    mul-fits (held (a .pre .0 .in-x) tt) (held (a .pre .1 .in-y) tt) tt
 
--- src/volume.rt:29:24
 mul-t10 : tie.Need-mul-t10
-mul-t10 c = ?
+mul-t10 c =
+    let a = c .before .before .before .before .before .before .before .before .before .before .before .before .before .before .before .before .before .before .before .before .before .before .before .before in
+    mul-fits (held (a .pre .0 .in-y) tt) (held (a .pre .1 .in-x) tt) tt
 
--- src/volume.rt:29:12
 sub-t11 : tie.Need-sub-t11
-sub-t11 c = ?
+sub-t11 c =
+    let a = c .before .before .before .before .before .before .before .before .before .before .before .before .before .before .before .before .before .before .before .before .before .before .before .before in
+    sub-fits (mul-is (held (a .pre .0 .in-x) tt) (held (a .pre .1 .in-y) tt) tt) (mul-is (held (a .pre .0 .in-y) tt) (held (a .pre .1 .in-x) tt) tt) tt
 
--- src/volume.rt:20:1
 returns : tie.Need-returns
-returns c = ?
+unfolding cross
+returns c =
+    let a = c .before .before .before .before .before .before .before .before .before .before .before .before .before .before .before .before .before .before .before .before .before .before .before .before in
+    let x = sub-is (mul-is (held (a .pre .0 .in-y) tt) (held (a .pre .1 .in-z) tt) tt) (mul-is (held (a .pre .0 .in-z) tt) (held (a .pre .1 .in-y) tt) tt) tt in
+    let y = sub-is (mul-is (held (a .pre .0 .in-z) tt) (held (a .pre .1 .in-x) tt) tt) (mul-is (held (a .pre .0 .in-x) tt) (held (a .pre .1 .in-z) tt) tt) tt in
+    let z = sub-is (mul-is (held (a .pre .0 .in-x) tt) (held (a .pre .1 .in-y) tt) tt) (mul-is (held (a .pre .0 .in-y) tt) (held (a .pre .1 .in-x) tt) tt) tt in
+    (place-is (cross (placeAt (a .args .v)) (placeAt (a .args .w))) (x .eq) (y .eq) (z .eq), box-of x y z)
 
 pub cross-product-spec : {M : Type 1} → statement M
 cross-product-spec =
