@@ -1,5 +1,6 @@
 -- Places as the code holds them: three signed numbers, each of them small.
 use Prim.Native.Nat.{ℕ, _≤_}
+use mathlib.Core.Path.{_≡_}
 use lib.IntN.{ℤ, pos, natAbs, _+ℤ_, _*ℤ_}
 use Rattle.lattice.specs.Axis.{Axis, xyz}
 use Rattle.lattice.specs.Direction.{Step}
@@ -29,3 +30,9 @@ latticeBox = 33024
 
 abbrev pub placeBox : ℕ
 placeBox = 40000
+
+-- no coordinate is below 0
+pub record Nonnegative (p : Place) : Type 0 where
+  pub x-up : p .x ≡ pos (natAbs (p .x))
+  pub y-up : p .y ≡ pos (natAbs (p .y))
+  pub z-up : p .z ≡ pos (natAbs (p .z))
