@@ -6,15 +6,15 @@ use native.Mathlib.Nat.{mul-le-mul, lt-of-le-of-lt}
 use mathlib.Core.Path.{_≡_, refl, sym, ap, ap₂, _∙_, subst}
 use mathlib.Core.Bool.{Bool, true, false, cond}
 use lib.IntN.{ℤ, pos, negsuc, negℤ, subℕ, natAbs, _+ℤ_, _-ℤ_, _*ℤ_}
-use lib.Signed.{mag}
+use lib.Signed.{mag, nonNeg}
 use lib.Dec.{ltb, T, ltb→lt}
 use borrow.Author.Tests.{ltb-true}
-use mir.Syntax.{w64}
-use mir.Val.{SFits, toZ, ofZ}
+use mir.Syntax.{w32, w64}
+use mir.Val.{Fits, SFits, toZ, ofZ}
 use mir.ValLaws.{toZ-ofZ}
 use Rattle.lattice.specs.Axis.{Axis, along-x, along-y, along-z}
 use Rattle.places.specs.declared.Place.{Place}
-use Rattle.places.specs.Places.{Within, InBox, placeAt}
+use Rattle.places.specs.Places.{Within, InBox, latticeBox, placeBox, placeAt}
 
 negated : (a : ℤ) → natAbs (negℤ a) ≡ natAbs a
 negated (pos zero) = refl
@@ -115,3 +115,11 @@ place-is f {x} {y} {z} ex ey ez = λ i a. by-axis a i
 
 pub box-of : {A : ℕ} {x y z a b c : ℤ} → Is A x a → Is A y b → Is A z c → InBox A (record { x = x; y = y; z = z })
 box-of p q r = record { in-x = rw (p .eq) (p .inside); in-y = rw (q .eq) (q .inside); in-z = rw (r .eq) (r .inside) }
+
+pub box-wider : {p : Place} → InBox latticeBox p → InBox placeBox p
+box-wider h = record { in-x = wider placeBox (omega arith) (h .in-x); in-y = wider placeBox (omega arith) (h .in-y); in-z = wider placeBox (omega arith) (h .in-z) }
+
+-- a number that is not below 0 is cast to a u32
+pub cast-up : {z : ℤ} → Within placeBox z → z ≡ pos (natAbs z) → T (nonNeg (back z)) × Fits w32 (natAbs (back z))
+cast-up {z} h u =
+    subst (λ (x : ℤ). T (nonNeg x) × Fits w32 (natAbs x)) (sym (held h tt .eq)) (rw u tt, record { fits = omega (arith, h .size) })

@@ -4,6 +4,7 @@ use native.Mathlib.Omega.{arith}
 use mathlib.Core.Path.{_≡_, refl, ap, sym, _∙_, subst}
 use Rattle.lattice.specs.declared.Sizes.{Sizes}
 use Rattle.lattice.specs.declared.Kind.{Kind}
+use Rattle.lattice.specs.declared.Near.{Near}
 use Rattle.lattice.specs.declared.Site.{Site}
 use Rattle.lattice.specs.Axis.{Axis, along-x, along-y, along-z}
 use Rattle.lattice.specs.Counts.{Sized, points}
@@ -44,9 +45,13 @@ module _ (s : Sizes) (p : ℕ) (q : Site) (is : q ≡ siteOf s p) where
             across-is = rw same refl;
           }
 
-  pub site-near : (c : ℕ) → near s (q .kind) (index q) c ≡ neighbour s p c
+  site-near : (c : ℕ) → near s (q .kind) (index q) c ≡ neighbour s p c
   unfolding siteAt
   site-near c = ap (λ (r : Site). near s (r .kind) (index r) c) is ∙ (λ t. near s (kindOf s p) (index-site s (kindOf s p) (indexOf s p) t) c)
+
+  -- what a search from the site found
+  pub site-leads : (c : ℕ) {n m : Near} → n ≡ near s (q .kind) (index q) c → n ≡ m → neighbour s p c ≡ m
+  site-leads c e f = sym (site-near c) ∙ sym e ∙ f
 
   pub site-rest : latticePlace (q .kind) (index q) ≡ rest s p
   unfolding siteAt

@@ -3,3 +3,4 @@ pub mod Standing
 pub mod FromEnd
 pub mod Decoded
 pub mod Answers
+pub mod Bytes

@@ -8,12 +8,12 @@ use borrow.Author.Tests.{le-leb, lt-leb}
 use Rattle.lattice.specs.declared.Kind.{Kind}
 use Rattle.lattice.specs.Axis.{Axis}
 use Rattle.lattice.specs.Point.{doubled}
-use Rattle.lattice.specs.Direction.{Step, isStart, directionOf, direction, step}
+use Rattle.lattice.specs.Direction.{Step, Code, isStart, directionOf, direction, step}
 use Rattle.lattice.specs.Site.{oddOf}
 use Rattle.lattice.proofs.Sites.{doubled-odd, odd-small}
 use Rattle.moving.specs.Violation.{measured}
 use Rattle.geometry.specs.Place.{signed}
-use Rattle.places.specs.Places.{Within, latticeBox, placeBox}
+use Rattle.places.specs.Places.{Within, along, latticeBox, placeBox}
 use Rattle.places.proofs.Box.{Is, back, held, result-is, nat-within}
 
 -- a lattice coordinate as the code computes it
@@ -36,6 +36,12 @@ stepped-is {x} {v} {up} {down} w t eu ed h f e b =
 pub start-step : (d : ℕ) → d < 7 → (a : Axis) → step (d + 1) a ≡ direction d a
 unfolding step isStart directionOf
 start-step d h a = let e : (d + 1 - 1) % 7 ≡ d = omega arith in rw (le-leb (d + 1) 7 (omega arith), e) refl
+
+pub start-code : (d : ℕ) → d < 7 → Code (d + 1)
+start-code d h = record { low = omega arith; high = omega arith }
+
+pub start-along : (f : Axis → ℤ) (d t : ℕ) → d < 7 → along f (step (d + 1)) t ≡ along f (direction d) t
+start-along f d t h = λ i. along f (λ a. start-step d h a i) t
 
 -- t measured from a point that is the start of its edge, or the end
 pub measured-start : (c t : ℕ) → c ≤ 7 → measured c t ≡ t

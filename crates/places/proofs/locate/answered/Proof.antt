@@ -1,22 +1,18 @@
+-- No coordinate is below 0, and each fits. Assumes nothing.
+use Rattle.places.proofs.Box.{cast-up}
 use borrow.Author.Needs.{needs}
 use Rattle.places.proofs.locate.answered.Statement.{statement}
 use Rattle.places.proofs.locate.answered.Tie as tie
-use Rattle.places.proofs.locate.answered.Reads as reads
-use Rattle.places.proofs.locate.answered.Lts as lts
 
--- src/locate.rt:28:12
 cast-t2 : tie.Need-cast-t2
-cast-t2 c = ?
+cast-t2 c = let a = c .before .before .pre in cast-up (a .0 .in-x) (a .1 .x-up)
 
--- src/locate.rt:29:12
 cast-t3 : tie.Need-cast-t3
-cast-t3 c = ?
+cast-t3 c = let a = c .before .before .before .before .pre in cast-up (a .0 .in-y) (a .1 .y-up)
 
--- src/locate.rt:30:12
 cast-t4 : tie.Need-cast-t4
-cast-t4 c = ?
+cast-t4 c = let a = c .before .before .before .before .before .before .pre in cast-up (a .0 .in-z) (a .1 .z-up)
 
--- src/locate.rt:21:1
 returns : tie.Need-returns
 returns c = search needs
 

@@ -1,77 +1,95 @@
+-- The refusals in their order. Assumes nothing.
+use native.Mathlib.Omega.{arith}
+use mathlib.Core.Path.{sym, ap, _∙_}
+use Prim.Native.Nat.{ℕ, _*_, _-_}
+use borrow.Author.Tests.{not-true, not-false}
+use Rattle.lattice.proofs.Bounds.{points-small}
+use Rattle.lattice.proofs.Sized.{fits-sized}
+use Rattle.places.specs.Answer.{cutAnswer}
+use Rattle.places.proofs.Answers.{call-size, call-cuts, call-state, call-point, call-cut, call-past}
 use borrow.Author.Needs.{needs}
 use Rattle.places.proofs.locate.locate_id.Statement.{statement}
 use Rattle.places.proofs.locate.locate_id.Tie as tie
-use Rattle.places.proofs.locate.locate_id.Reads as reads
-use Rattle.places.proofs.locate.locate_id.Lts as lts
-use Rattle.lattice.proofs.counts.point_count.Reads as point-count-reads
-use Rattle.lattice.proofs.counts.sizes_fit.Reads as sizes-fit-reads
-use Rattle.places.proofs.locate.locate_cut.Reads as locate-cut-reads
-use Rattle.places.proofs.locate.locate_point.Reads as locate-point-reads
-use Rattle.places.proofs.locate.refused.Reads as refused-reads
 
--- src/locate.rt:125:9
 sizes-fit-requires : tie.Need-sizes-fit-requires
 sizes-fit-requires c κs = search needs
 
--- src/locate.rt:126:9
 refused-requires : tie.Need-refused-requires
 refused-requires c κs = search needs
 
--- src/locate.rt:126:9
 returns : tie.Need-returns
-returns c = ?
+returns c =
+    let a = c .before .before .before .before .before in
+    c .refused .ensures ∙ call-size (a .args .s) (a .args .cuts .now) (a .args .state .now) (a .args .id) (sym (c .before .before .sizes-fit .ensures) ∙ not-true _ (c .before .if1 .taken))
 
--- src/locate.rt:128:9
 point-count-requires : tie.Need-point-count-requires
-point-count-requires c κs = ?
+point-count-requires c κs = fits-sized _ (sym (c .before .sizes-fit .ensures) ∙ not-false _ (c .if1 .left))
 
--- src/locate.rt:129:22
 mul-if2 : tie.Need-mul-if2
-mul-if2 c = ?
+mul-if2 c = omega (arith, c .point-count .ensures, points-small _ (fits-sized _ (sym (c .before .before .sizes-fit .ensures) ∙ not-false _ (c .before .if1 .left))))
 
--- src/locate.rt:130:9
 refused-requires-2 : tie.Need-refused-requires-2
 refused-requires-2 c κs = search needs
 
--- src/locate.rt:130:9
 returns-2 : tie.Need-returns-2
-returns-2 c = ?
+returns-2 c =
+    let a = c .before .before .before .before .before .before .before in
+    let f = sym (c .before .before .before .before .sizes-fit .ensures) ∙ not-false _ (c .before .before .before .if1 .left) in
+    let n = c .before .before .point-count .ensures in
+    c .refused2 .ensures ∙ call-cuts (a .args .s) (a .args .cuts .now) (a .args .state .now) (a .args .id) f (λ e. c .before .if2 .taken (e ∙ sym (ap (λ (m : ℕ). 7 * m) n)))
 
--- src/locate.rt:133:9
 refused-requires-3 : tie.Need-refused-requires-3
 refused-requires-3 c κs = search needs
 
--- src/locate.rt:133:9
 returns-3 : tie.Need-returns-3
-returns-3 c = ?
+returns-3 c =
+    let a = c .before .before .before .before .before .before .before .before in
+    let f = sym (c .before .before .before .before .before .sizes-fit .ensures) ∙ not-false _ (c .before .before .before .before .if1 .left) in
+    let n = c .before .before .before .point-count .ensures in
+    c .refused3 .ensures ∙ call-state (a .args .s) (a .args .cuts .now) (a .args .state .now) (a .args .id) f (omega arith) (λ e. c .before .if3 .taken (e ∙ sym n))
 
--- src/locate.rt:136:9
 locate-point-requires : tie.Need-locate-point-requires
-locate-point-requires c κs = ?
+locate-point-requires c κs =
+    let a = c .before .before .before .before .before .before .before .before in
+    let f = sym (c .before .before .before .before .before .sizes-fit .ensures) ∙ not-false _ (c .before .before .before .before .if1 .left) in
+    let n = c .before .before .before .point-count .ensures in
+    (fits-sized _ f, (omega arith, (omega arith, omega arith)))
 
--- src/locate.rt:136:9
 returns-4 : tie.Need-returns-4
-returns-4 c = ?
+returns-4 c =
+    let a = c .before .before .before .before .before .before .before .before .before in
+    let f = sym (c .before .before .before .before .before .before .sizes-fit .ensures) ∙ not-false _ (c .before .before .before .before .before .if1 .left) in
+    let n = c .before .before .before .before .point-count .ensures in
+    c .locate-point .ensures ∙ call-point (a .args .s) (a .args .cuts .now) (a .args .state .now) (a .args .id) f (omega arith) (omega arith) (omega arith)
 
--- src/locate.rt:138:13
 mul-if5 : tie.Need-mul-if5
 mul-if5 c = search needs
 
--- src/locate.rt:139:9
 locate-cut-requires : tie.Need-locate-cut-requires
-locate-cut-requires c κs = ?
+locate-cut-requires c κs =
+    let a = c .before .before .before .before .before .before .before .before .before in
+    let f = sym (c .before .before .before .before .before .before .sizes-fit .ensures) ∙ not-false _ (c .before .before .before .before .before .if1 .left) in
+    let n = c .before .before .before .before .point-count .ensures in
+    (fits-sized _ f, (omega arith, (omega arith, omega arith)))
 
--- src/locate.rt:139:9
 returns-5 : tie.Need-returns-5
-returns-5 c = ?
+returns-5 c =
+    let a = c .before .before .before .before .before .before .before .before .before .before in
+    let f = sym (c .before .before .before .before .before .before .before .sizes-fit .ensures) ∙ not-false _ (c .before .before .before .before .before .before .if1 .left) in
+    let n = c .before .before .before .before .before .point-count .ensures in
+    c .locate-cut .ensures
+    ∙ ap (λ (m : ℕ). cutAnswer (a .args .s) (a .args .cuts .now) (a .args .state .now) (a .args .id - m)) n
+    ∙ call-cut (a .args .s) (a .args .cuts .now) (a .args .state .now) (a .args .id) f (omega arith) (omega arith) (omega arith) (omega arith)
 
--- src/locate.rt:141:5
 refused-requires-4 : tie.Need-refused-requires-4
 refused-requires-4 c κs = search needs
 
--- src/locate.rt:122:1
 returns-6 : tie.Need-returns-6
-returns-6 c = ?
+returns-6 c =
+    let a = c .before .before .before .before .before .before .before .before .before .before in
+    let f = sym (c .before .before .before .before .before .before .before .sizes-fit .ensures) ∙ not-false _ (c .before .before .before .before .before .before .if1 .left) in
+    let n = c .before .before .before .before .before .point-count .ensures in
+    c .refused4 .ensures ∙ call-past (a .args .s) (a .args .cuts .now) (a .args .state .now) (a .args .id) f (omega arith) (omega arith) (omega arith)
 
 pub locate-id-spec : {M : Type 1} → statement M
 locate-id-spec =

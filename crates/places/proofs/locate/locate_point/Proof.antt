@@ -1,53 +1,57 @@
+-- At rest, moved, or with a byte that is no code. Assumes nothing.
+use native.Mathlib.Omega.{arith}
+use mathlib.Core.Path.{refl, _∙_}
+use Rattle.places.proofs.Box.{box-wider}
+use Rattle.places.proofs.Decoded.{site-rest, site-le}
+use Rattle.places.proofs.Answers.{rest-up, point-rests, point-moved, point-strange}
 use borrow.Author.Needs.{needs}
 use Rattle.places.proofs.locate.locate_point.Statement.{statement}
 use Rattle.places.proofs.locate.locate_point.Tie as tie
-use Rattle.places.proofs.locate.locate_point.Reads as reads
-use Rattle.places.proofs.locate.locate_point.Lts as lts
-use Rattle.lattice.proofs.numbers.locate.Reads as locate-reads
-use Rattle.places.proofs.locate.answered.Reads as answered-reads
-use Rattle.places.proofs.locate.moved_point.Reads as moved-point-reads
-use Rattle.places.proofs.locate.refused.Reads as refused-reads
-use Rattle.places.proofs.points.rest_place.Reads as rest-place-reads
 
--- src/locate.rt:77:16
 shared-slice-read-code : tie.Need-shared-slice-read-code
 shared-slice-read-code c = search needs
 
--- src/locate.rt:77:16
 cast-code : tie.Need-cast-code
-cast-code c = ?
+cast-code c = omega (arith, c .shared-slice-known3 .given (c .before .before .before .args .p))
 
--- src/locate.rt:79:13
 locate-requires : tie.Need-locate-requires
 locate-requires c κs = search needs
 
--- src/locate.rt:81:25
 rest-place-requires : tie.Need-rest-place-requires
-rest-place-requires c κs = ?
+rest-place-requires c κs =
+    let a = c .before .before .before .before .before in
+    site-le (a .args .s) (a .args .p) _ (c .locate .ensures) (a .pre .0) (a .pre .1 .1 .1)
 
--- src/locate.rt:81:9
 answered-requires : tie.Need-answered-requires
-answered-requires c κs = ?
+answered-requires c κs =
+    let a = c .before .before .before .before .before .before in (
+      box-wider (c .rest-place .ensures .1),
+      rest-up (a .args .s) (a .args .p) _ (c .rest-place .ensures .0 ∙ site-rest (a .args .s) (a .args .p) _ (c .before .locate .ensures)),
+    )
 
--- src/locate.rt:81:9
 returns : tie.Need-returns
-returns c = ?
+returns c =
+    let a = c .before .before .before .before .before .before .before in
+    c .answered .ensures
+    ∙ point-rests (a .args .s) (a .args .cuts .now) (a .args .state .now) (a .args .p) (c .before .before .before .if1 .taken) _
+    (c .before .rest-place .ensures .0 ∙ site-rest (a .args .s) (a .args .p) _ (c .before .before .locate .ensures))
 
--- src/locate.rt:84:9
 moved-point-requires : tie.Need-moved-point-requires
 moved-point-requires c κs = search needs
 
--- src/locate.rt:84:9
 returns-2 : tie.Need-returns-2
-returns-2 c = ?
+returns-2 c =
+    let a = c .before .before .before .before .before .before in
+    c .moved-point .ensures
+    ∙ point-moved (a .args .s) (a .args .cuts .now) (a .args .state .now) (a .args .p) _ refl (c .before .before .if1 .left) (c .before .if2 .taken)
 
--- src/locate.rt:86:5
 refused-requires : tie.Need-refused-requires
 refused-requires c κs = search needs
 
--- src/locate.rt:70:1
 returns-3 : tie.Need-returns-3
-returns-3 c = ?
+returns-3 c =
+    let a = c .before .before .before .before .before .before in
+    c .refused .ensures ∙ point-strange (a .args .s) (a .args .cuts .now) (a .args .state .now) (a .args .p) (c .before .if2 .left)
 
 pub locate-point-spec : {M : Type 1} → statement M
 locate-point-spec =

@@ -1,76 +1,111 @@
+-- The cut that the code names, seen from the point; or 9. Assumes nothing.
+use native.Mathlib.Omega.{arith}
+use Prim.Native.Nat.{ℕ}
+use mathlib.Core.Path.{sym, ap, _∙_}
+use lib.IntN.{ℤ}
+use lib.ListN.{getD}
+use Rattle.lattice.specs.Axis.{Axis}
+use Rattle.lattice.specs.Direction.{step}
+use Rattle.moving.specs.Violation.{measured}
+use Rattle.places.specs.Places.{along}
+use Rattle.places.proofs.Decoded.{sited, site-leads, site-rest, site-le}
+use Rattle.places.proofs.Answers.{measured-small, along-up, moved-none, moved-far, moved-answer}
+use Rattle.places.proofs.Bytes.{neighbour-small, edge-byte-lt}
 use borrow.Author.Needs.{needs}
 use Rattle.places.proofs.locate.moved_point.Statement.{statement}
 use Rattle.places.proofs.locate.moved_point.Tie as tie
-use Rattle.places.proofs.locate.moved_point.Reads as reads
-use Rattle.places.proofs.locate.moved_point.Lts as lts
-use Rattle.lattice.proofs.edges.edge_byte.Reads as edge-byte-reads
-use Rattle.lattice.proofs.edges.neighbour.Reads as neighbour-reads
-use Rattle.lattice.proofs.numbers.locate.Reads as locate-reads
-use Rattle.places.proofs.locate.answered.Reads as answered-reads
-use Rattle.places.proofs.locate.refused.Reads as refused-reads
-use Rattle.places.proofs.points.moved_place.Reads as moved-place-reads
-use Rattle.places.proofs.points.rest_place.Reads as rest-place-reads
-use Rattle.places.proofs.violation.violates.Reads as violates-reads
 
--- src/locate.rt:53:9
 locate-requires : tie.Need-locate-requires
 locate-requires c κs = search needs
 
--- src/locate.rt:55:9
 rest-place-requires : tie.Need-rest-place-requires
-rest-place-requires c κs = ?
+rest-place-requires c κs =
+    let a = c .before .before in
+    site-le (a .args .s) (a .args .p) _ (c .locate .ensures) (a .pre .0) (a .pre .1 .1 .0)
 
--- src/locate.rt:56:9
 neighbour-requires : tie.Need-neighbour-requires
-neighbour-requires c κs = ?
+neighbour-requires c κs =
+    let a = c .before .before .before in
+    (a .pre .0, (sited (a .args .s) (a .args .p) _ (c .before .locate .ensures) (a .pre .1 .1 .0), a .pre .1 .1 .1))
 
--- src/locate.rt:58:18
 enum-known-far : tie.Need-enum-known-far
 enum-known-far c = search needs
 
--- src/locate.rt:59:26
 edge-byte-requires : tie.Need-edge-byte-requires
-edge-byte-requires c κs = ?
+edge-byte-requires c κs =
+    let a = c .before .before .before .before .before .before .before in
+    let to = site-leads (a .args .s) (a .args .p) _ (c .before .before .before .before .before .locate .ensures) (a .args .code) (c .before .before .before .neighbour .ensures) (c .before .far .given .1) in
+    let n = neighbour-small (a .args .s) (a .args .p) (a .args .code) _ (a .pre .0) (a .pre .1 .1 .0) (a .pre .1 .1 .1) to in
+    ((n .0, n .1), a .pre .1 .1 .1)
 
--- src/locate.rt:59:21
 shared-slice-read-t : tie.Need-shared-slice-read-t
-shared-slice-read-t c = ?
+shared-slice-read-t c =
+    let a = c .before .before .before .before .before .before .before .before .before in
+    let to = site-leads (a .args .s) (a .args .p) _ (c .before .before .before .before .before .before .before .locate .ensures) (a .args .code) (c .before .before .before .before .before .neighbour .ensures) (c .before .before .before .far .given .1) in
+    omega (arith, a .pre .1 .0, c .before .edge-byte .ensures, edge-byte-lt (a .args .s) (a .args .p) (a .args .code) _ (a .pre .1 .1 .0) (a .pre .1 .1 .1) to)
 
--- src/locate.rt:60:16
 violates-requires : tie.Need-violates-requires
 violates-requires c κs = search needs
 
--- src/locate.rt:61:33
 moved-place-requires : tie.Need-moved-place-requires
 moved-place-requires c κs = search needs
 
--- src/locate.rt:61:17
 answered-requires : tie.Need-answered-requires
-answered-requires c κs = ?
+answered-requires c κs =
+    let a = c .before .before .before .before .before .before .before .before .before .before .before .before in
+    let lo = c .before .before .before .before .before .before .before .before .before .before .locate .ensures in
+    let to = site-leads (a .args .s) (a .args .p) _ lo (a .args .code) (c .before .before .before .before .before .before .before .before .neighbour .ensures) (c .before .before .before .before .before .before .far .given .1) in
+    let at = c .before .before .before .before .edge-byte in
+    let t = getD (a .args .cuts .now) (at .result) 0 in
+    let is =
+    c .moved-place .ensures .0
+    ∙ ap (λ (f : Axis → ℤ). along f (step (a .args .code)) (measured (a .args .code) t)) (c .before .before .before .before .before .before .before .before .before .rest-place .ensures .0 ∙ site-rest (a .args .s) (a .args .p) _ lo)
+    in
+    let small = measured-small (a .args .code) t (omega (arith, c .before .before .before .shared-slice-known2 .given (at .result))) in
+    (c .moved-place .ensures .1, along-up (a .args .s) (a .args .p) (a .args .code) _ _ (a .pre .1 .1 .0) (a .pre .1 .1 .1) to small _ is)
 
--- src/locate.rt:61:17
 returns : tie.Need-returns
-returns c = ?
+returns c =
+    let a = c .before .before .before .before .before .before .before .before .before .before .before .before .before in
+    let lo = c .before .before .before .before .before .before .before .before .before .before .before .locate .ensures in
+    let to = site-leads (a .args .s) (a .args .p) _ lo (a .args .code) (c .before .before .before .before .before .before .before .before .before .neighbour .ensures) (c .before .before .before .before .before .before .before .far .given .1) in
+    let at = c .before .before .before .before .before .edge-byte in
+    let t = getD (a .args .cuts .now) (at .result) 0 in
+    let is =
+    c .before .moved-place .ensures .0
+    ∙ ap (λ (f : Axis → ℤ). along f (step (a .args .code)) (measured (a .args .code) t)) (c .before .before .before .before .before .before .before .before .before .before .rest-place .ensures .0 ∙ site-rest (a .args .s) (a .args .p) _ lo)
+    in
+    c .answered .ensures
+    ∙ moved-answer (a .args .s) (a .args .cuts .now) (a .args .p) (a .args .code) _ t to (ap (λ (o : ℕ). getD (a .args .cuts .now) o 0) (at .ensures))
+    (a .pre .1 .1 .0) (a .pre .1 .1 .1) (omega (arith, c .before .before .before .before .shared-slice-known2 .given (at .result)))
+    (sym (c .before .before .before .violates .ensures) ∙ c .before .before .if1 .taken) _ is
 
--- src/locate.rt:63:13
 refused-requires : tie.Need-refused-requires
 refused-requires c κs = search needs
 
--- src/locate.rt:65:26
 enum-told : tie.Need-enum-told
 enum-told c = search needs
 
--- src/locate.rt:65:26
 refused-requires-2 : tie.Need-refused-requires-2
 refused-requires-2 c κs = search needs
 
--- src/locate.rt:46:1
 returns-2 : tie.Need-returns-2
-returns-2 c = ?
+returns-2 c =
+    let a = c .before .before .before .before .before .before .before .before .before .before .before .before in
+    let lo = c .before .before .before .before .before .before .before .before .before .before .locate .ensures in
+    let to = site-leads (a .args .s) (a .args .p) _ lo (a .args .code) (c .before .before .before .before .before .before .before .before .neighbour .ensures) (c .before .before .before .before .before .before .far .given .1) in
+    let at = c .before .before .before .before .edge-byte in
+    let t = getD (a .args .cuts .now) (at .result) 0 in
+    c .refused .ensures
+    ∙ moved-far (a .args .s) (a .args .cuts .now) (a .args .p) (a .args .code) _ t to (ap (λ (o : ℕ). getD (a .args .cuts .now) o 0) (at .ensures))
+    (sym (c .before .before .violates .ensures) ∙ c .before .if1 .left)
 
--- src/locate.rt:46:1
 returns-3 : tie.Need-returns-3
-returns-3 c = ?
+returns-3 c =
+    let a = c .before .before .before .before .before .before .before in
+    c .refused2 .ensures
+    ∙ moved-none (a .args .s) (a .args .cuts .now) (a .args .p) (a .args .code)
+    (site-leads (a .args .s) (a .args .p) _ (c .before .before .before .before .before .locate .ensures) (a .args .code) (c .before .before .before .neighbour .ensures) (c .before .enum-told .given .1))
 
 pub moved-point-spec : {M : Type 1} → statement M
 moved-point-spec =

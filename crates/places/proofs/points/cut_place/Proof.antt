@@ -1,7 +1,7 @@
 -- A direction is a code of its start. Assumes nothing.
 use mathlib.Core.Path.{_∙_}
-use Rattle.places.specs.Places.{placeAt, along}
-use Rattle.places.proofs.Standing.{start-step}
+use Rattle.places.specs.Places.{placeAt}
+use Rattle.places.proofs.Standing.{start-along}
 use borrow.Author.Needs.{needs}
 use Rattle.places.proofs.points.cut_place.Statement.{statement}
 use Rattle.places.proofs.points.cut_place.Tie as tie
@@ -15,7 +15,7 @@ led-requires c κs = search needs
 returns : tie.Need-returns
 returns c =
     let a = c .before in
-    (c .led .ensures .0 ∙ (λ i. along (placeAt (a .args .start)) (λ x. start-step (a .args .d) (a .pre .1) x i) (a .args .t)), c .led .ensures .1)
+    (c .led .ensures .0 ∙ start-along (placeAt (a .args .start)) (a .args .d) (a .args .t) (a .pre .1), c .led .ensures .1)
 
 pub cut-place-spec : {M : Type 1} → statement M
 cut-place-spec = tie.close (tie.spec add-led led-requires returns)

@@ -1,15 +1,17 @@
+-- Each way out by the test that led there. Assumes nothing.
+use borrow.Author.Tests.{lt-ltb, le-ltb}
+use Rattle.lattice.specs.Direction.{long}
+use Rattle.moving.specs.Violation.{limit}
 use Rattle.places.proofs.violation.limit.Statement.{statement}
 use Rattle.places.proofs.violation.limit.Tie as tie
-use Rattle.places.proofs.violation.limit.Reads as reads
-use Rattle.places.proofs.violation.limit.Lts as lts
 
--- src/violation.rt:7:1
 returns : tie.Need-returns
-returns c = ?
+unfolding limit long
+returns c = simp (lt-ltb _ _ (c .if1 .taken))
 
--- src/violation.rt:7:1
 returns-2 : tie.Need-returns-2
-returns-2 c = ?
+unfolding limit long
+returns-2 c = simp (le-ltb _ _ (c .if1 .left))
 
 pub limit-spec : {M : Type 1} → statement M
 limit-spec = tie.close (tie.spec returns returns-2)
