@@ -1,11 +1,10 @@
 -- The faces' half of demand 3, for any labels without a plus on the rim: every face of every row is shared with one other row, wound the
 -- opposite way, or with none, and then its corners are cuts or points with the label zero. Assumes nothing.
-use Prim.Native.Nat.{ℕ, zero, suc, _≤_, _<_}
-use native.Mathlib.Nat.{not-suc-le-zero, le-of-suc-le-suc}
-use mathlib.Core.Path.{_≡_, refl, sym, _∙_, ap, subst, subst₂}
+use Prim.Native.Nat.{ℕ, _≤_, _<_}
+use mathlib.Core.Path.{_≡_, sym, _∙_, ap, subst, subst₂}
 use mathlib.Core.Logic.{_⊎_, inl, inr}
-use mathlib.Core.List.{List, [], _∷_, map}
-use lib.ListN.{length, getD, length-map}
+use lib.ListN.{length, length-map}
+use Rattle.basics.proofs.Mapped.{map-at}
 use Rattle.basics.proofs.Gather.{Found, found-member, found-in, found-lt, found-get, found-at, find, found-same, found-once}
 use Rattle.lattice.specs.declared.Sizes.{Sizes}
 use Rattle.lattice.specs.Counts.{points}
@@ -28,11 +27,6 @@ use Rattle.faces.proofs.LatticeComplex.{OnSkin, lattice, lattice-fits}
 use Rattle.faces.proofs.Ids.{id-inj}
 use Rattle.faces.proofs.Signed.{signedIn, signedRows, NoRim}
 
-get-map : {A B : Type 0} (f : A → B) (l : List A) (i : ℕ) (d : A) (e : B) → i < length l → getD (map f l) i e ≡ f (getD l i d)
-get-map f [] i d e h = absurd (not-suc-le-zero h)
-get-map f (x ∷ l) zero d e h = refl
-get-map f (x ∷ l) (suc i) d e h = get-map f l i d e (le-of-suc-le-suc h)
-
 module _ (s : Sizes) (label : ℕ → Label) where
   -- the k-th row of the block is the r-th of the tetrahedron t
   abbrev At : ℕ → Tetrahedron → ℕ → Type 0
@@ -51,7 +45,8 @@ module _ (s : Sizes) (label : ℕ → Label) where
   at-row : {k r : ℕ} {t : Tetrahedron} → At k t r → nthRow (signedRows s label) k ≡ idRow (lattice s label) t r
   unfolding signedRows signedIn signedFor rowIn
   at-row {r = r} {t = t} a =
-      found-get (signedIn s label) (row 0 0 0 0) a ∙ get-map (mapRow (idOf s t)) (cellRows (lattice s label) t) r noRow (row 0 0 0 0) (at-inside a)
+      found-get (signedIn s label) (row 0 0 0 0) a
+      ∙ map-at (mapRow (idOf s t)) (cellRows (lattice s label) t) r noRow (row 0 0 0 0) (at-inside a)
 
   at-of : (k : ℕ) → k < length (signedRows s label) → (t : Tetrahedron) × (r : ℕ) × At k t r
   unfolding signedRows
@@ -61,13 +56,15 @@ module _ (s : Sizes) (label : ℕ → Label) where
   at-one {j = j} a b e = found-once (signedIn s label) (listed-once s) (subst₂ (λ (x : Tetrahedron) (m : ℕ). At j x m) (e .0) (e .1) b) a
 
   -- a row that holds a face of the k-th
-  held : {k r m : ℕ} {t : Tetrahedron} (v : Vertex) → At k t r → (h : m < length (signedRows s label)) → Holds (nthRow (signedRows s label) m) (faceOf (nthRow (signedRows s label) k) v)
+  held : {k r m : ℕ} {t : Tetrahedron} (v : Vertex) → At k t r → (h : m < length (signedRows s label))
+      → Holds (nthRow (signedRows s label) m) (faceOf (nthRow (signedRows s label) k) v)
       → Held (lattice s label) (at-of m h .0) (at-of m h .1) (idFace (lattice s label) t r v)
   held {m = m} v a h p =
       let b = at-of m h .2 in
       record { cell = at-valid b; inside = at-inside b; holds = subst₂ (λ (x y : Row ℕ). Holds x (faceOf y v)) (at-row b) (at-row a) p }
 
-  fits-at : {k r : ℕ} {t : Tetrahedron} (v : Vertex) → At k t r → Fine (lattice s label) t r v → FaceFits (signedRows s label) (OnSkin s label) k v
+  fits-at : {k r : ℕ} {t : Tetrahedron} (v : Vertex) → At k t r → Fine (lattice s label) t r v
+      → FaceFits (signedRows s label) (OnSkin s label) k v
   unfolding signedRows
   fits-at {k = k} {r = r} {t = t} v a (two u n w hu hn ne o only) =
       shared (b .0) w (found-lt (signedIn s label) (b .1))
@@ -86,14 +83,16 @@ pub faces : (s : Sizes) (label : ℕ → Label) → NoRim s label → (i : ℕ) 
     → FaceFits (signedRows s label) (λ id. (points s ≤ id) ⊎ ((id < points s) × (label id ≡ Zero))) i v
 faces s label rim i h v =
     let a = at-of s label i h in
-    fits-at s label v (a .2) (every-face (lattice s label) (lattice-fits s label rim) (a .0) (at-valid s label (a .2)) (a .1) (at-inside s label (a .2)) v)
+    fits-at s label v (a .2)
+    (every-face (lattice s label) (lattice-fits s label rim) (a .0) (at-valid s label (a .2)) (a .1) (at-inside s label (a .2)) v)
 
 -- a row's four ids differ
 pub ids-differ : (s : Sizes) (label : ℕ → Label) (i : ℕ) → i < length (signedRows s label) → (v w : Vertex)
     → rowAt (nthRow (signedRows s label) i) v ≡ rowAt (nthRow (signedRows s label) i) w → v ≡ w
 ids-differ s label i h v w e =
     differ (winds (t .edge)) (labelsOf (lattice s label) t) (a .1) inside v w
-    (entry-inj (cornerNumber s t) (ascending s t valid) (entry v) (entry w) (id-inj s t t valid valid (entry v) (entry w) (order v) (order w) (sym (at v) ∙ e ∙ at w)))
+    (entry-inj (cornerNumber s t) (ascending s t valid) (entry v) (entry w)
+    (id-inj s t t valid valid (entry v) (entry w) (order v) (order w) (sym (at v) ∙ e ∙ at w)))
   where
     a : (t : Tetrahedron) × (r : ℕ) × At s label i t r
     a = at-of s label i h

@@ -8,6 +8,7 @@ pub mod Neighbour
 pub mod NeighbourTests
 pub mod NeighbourLaws
 pub mod Lattice
+pub mod EdgeTests
 pub mod Ids
 pub mod Signed
 pub mod LatticeComplex
