@@ -3,4 +3,3 @@ pub mod Standing
 pub mod FromEnd
 pub mod Decoded
 pub mod Answers
-pub mod Bytes

@@ -1,7 +1,6 @@
 // Places of lattice points, of cuts and of moved points; the six-volume; the place call.
 pub mod locate;
 pub mod points;
-pub mod violation;
 pub mod volume;
 
 // A place: three signed coordinates, 256 to a doubled coordinate.

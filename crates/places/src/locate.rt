@@ -1,13 +1,13 @@
 // The place call: where the corner of a row with a given id stands.
 use crate::Place;
 use crate::points;
-use crate::violation;
 use filling::Placed;
 use lattice::Near;
 use lattice::Sizes;
 use lattice::counts;
 use lattice::edges;
 use lattice::numbers;
+use warp::violation;
 ghost use mathlib.Core.Path.{_≡_};
 ghost use Prim.Native.Nat.{_*_, _<_};
 ghost use lib.ListN.{length};

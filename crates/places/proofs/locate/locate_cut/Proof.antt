@@ -7,8 +7,9 @@ use lib.ListN.{getD}
 use Rattle.lattice.specs.Axis.{Axis}
 use Rattle.lattice.specs.Direction.{Code, direction, step}
 use Rattle.lattice.proofs.Edge.{neighbour-lt}
+use Rattle.warp.proofs.Next.{siting}
 use Rattle.places.specs.Places.{along}
-use Rattle.places.proofs.Decoded.{sited, site-leads, site-rest, site-le}
+use Rattle.places.proofs.Decoded.{site-leads, site-rest, site-le}
 use Rattle.places.proofs.Standing.{start-code, start-along}
 use Rattle.places.proofs.Answers.{along-up, cut-none, cut-absent, cut-moved, cut-ends, cut-answer}
 use borrow.Author.Needs.{needs}
@@ -46,7 +47,7 @@ add-neighbour c = search needs
 neighbour-requires : tie.Need-neighbour-requires
 neighbour-requires c κs =
     let a = c .before .before .before .before .before .before .before in
-    (a .pre .0, (sited (a .args .s) (a .args .o / 7) _ (c .locate .ensures) (omega arith), start-code (a .args .o % 7) (omega arith)))
+    (a .pre .0, (siting (a .args .s) (a .args .o / 7) _ (c .locate .ensures) (omega arith) .0, start-code (a .args .o % 7) (omega arith)))
 
 enum-known-far : tie.Need-enum-known-far
 enum-known-far c = search needs

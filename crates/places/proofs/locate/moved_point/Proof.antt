@@ -1,16 +1,20 @@
 -- The cut that the code names, seen from the point; or 9. Assumes nothing.
 use native.Mathlib.Omega.{arith}
-use Prim.Native.Nat.{ℕ}
+use Prim.Native.Nat.{ℕ, _<_}
 use mathlib.Core.Path.{sym, ap, _∙_}
 use lib.IntN.{ℤ}
 use lib.ListN.{getD}
 use Rattle.lattice.specs.Axis.{Axis}
+use Rattle.lattice.specs.Counts.{points}
 use Rattle.lattice.specs.Direction.{step}
+use Rattle.lattice.proofs.Bounds.{points-small}
+use Rattle.lattice.proofs.Edge.{neighbour-lt}
 use Rattle.moving.specs.Violation.{measured}
+use Rattle.warp.proofs.Next.{siting}
+use Rattle.warp.proofs.Codes.{byte-lt}
 use Rattle.places.specs.Places.{along}
-use Rattle.places.proofs.Decoded.{sited, site-leads, site-rest, site-le}
+use Rattle.places.proofs.Decoded.{site-leads, site-rest, site-le}
 use Rattle.places.proofs.Answers.{measured-small, along-up, moved-none, moved-far, moved-answer}
-use Rattle.places.proofs.Bytes.{neighbour-small, edge-byte-lt}
 use borrow.Author.Needs.{needs}
 use Rattle.places.proofs.locate.moved_point.Statement.{statement}
 use Rattle.places.proofs.locate.moved_point.Tie as tie
@@ -26,7 +30,7 @@ rest-place-requires c κs =
 neighbour-requires : tie.Need-neighbour-requires
 neighbour-requires c κs =
     let a = c .before .before .before in
-    (a .pre .0, (sited (a .args .s) (a .args .p) _ (c .before .locate .ensures) (a .pre .1 .1 .0), a .pre .1 .1 .1))
+    (a .pre .0, (siting (a .args .s) (a .args .p) _ (c .before .locate .ensures) (a .pre .1 .1 .0) .0, a .pre .1 .1 .1))
 
 enum-known-far : tie.Need-enum-known-far
 enum-known-far c = search needs
@@ -35,14 +39,15 @@ edge-byte-requires : tie.Need-edge-byte-requires
 edge-byte-requires c κs =
     let a = c .before .before .before .before .before .before .before in
     let to = site-leads (a .args .s) (a .args .p) _ (c .before .before .before .before .before .locate .ensures) (a .args .code) (c .before .before .before .neighbour .ensures) (c .before .far .given .1) in
-    let n = neighbour-small (a .args .s) (a .args .p) (a .args .code) _ (a .pre .0) (a .pre .1 .1 .0) (a .pre .1 .1 .1) to in
-    ((n .0, n .1), a .pre .1 .1 .1)
+    let n = points-small (a .args .s) (a .pre .0) in
+    ((omega arith, omega (arith, neighbour-lt (a .args .s) (a .args .p) (a .args .code) _ (a .pre .1 .1 .0) (a .pre .1 .1 .1) to)), a .pre .1 .1 .1)
 
 shared-slice-read-t : tie.Need-shared-slice-read-t
 shared-slice-read-t c =
     let a = c .before .before .before .before .before .before .before .before .before in
     let to = site-leads (a .args .s) (a .args .p) _ (c .before .before .before .before .before .before .before .locate .ensures) (a .args .code) (c .before .before .before .before .before .neighbour .ensures) (c .before .before .before .far .given .1) in
-    omega (arith, a .pre .1 .0, c .before .edge-byte .ensures, edge-byte-lt (a .args .s) (a .args .p) (a .args .code) _ (a .pre .1 .1 .0) (a .pre .1 .1 .1) to)
+    let far = neighbour-lt (a .args .s) (a .args .p) (a .args .code) _ (a .pre .1 .1 .0) (a .pre .1 .1 .1) to in
+    omega (arith, a .pre .1 .0, c .before .edge-byte .ensures, byte-lt (points (a .args .s)) (a .args .p) (a .args .code) _ (a .pre .1 .1 .1) (a .pre .1 .1 .0) far)
 
 violates-requires : tie.Need-violates-requires
 violates-requires c κs = search needs
