@@ -1,0 +1,5 @@
+pub mod Box
+pub mod Standing
+pub mod FromEnd
+pub mod Decoded
+pub mod Answers
