@@ -2,19 +2,18 @@
 -- row is measured by. Assumes nothing.
 use Prim.Native.Nat.{ℕ, _+_, _-_, _/_, _%_, _<_}
 use native.Mathlib.Omega.{arith}
-use mathlib.Core.Path.{_≡_, refl, sym, ap, _∙_, subst}
-use mathlib.Core.Logic.{_⊎_, inl, inr}
-use mathlib.Core.Bool.{Bool, true, false, not, _||_}
-use mathlib.Core.List.{List, [], _∷_, map}
+use mathlib.Core.Path.{_≡_, refl, sym, ap, _∙_}
+use mathlib.Core.Logic.{inl, inr}
+use mathlib.Core.Bool.{Bool, true, false, not}
+use mathlib.Core.List.{List, _∷_, map}
 use lib.IntN.{pos}
 use lib.Signed.{ltZ}
 use lib.ListN.{getD}
-use lib.Dec.{T, eqb, eqb→eq, ltb, ltb→lt}
-use borrow.Author.Tests.{eq-eqb, ne-eqb, le-leb, lt-leb, leb-true, leb-false}
+use lib.Dec.{T, ltb, ltb→lt}
+use borrow.Author.Tests.{eq-eqb, ne-eqb, leb-true, leb-false}
 use Rattle.basics.specs.Choice.{if_then_else_}
 use Rattle.basics.proofs.Test.{_&_, and-l, and-r, or-cases, every, every-use, T-true, Member, here, there}
 use Rattle.basics.proofs.Gather.{gather-part}
-use Rattle.lattice.specs.declared.Sizes.{Sizes}
 use Rattle.lattice.specs.declared.Near.the-variants.{At}
 use Rattle.lattice.specs.Counts.{points}
 use Rattle.lattice.specs.Direction.{Code, isStart, directionOf, opposite}
@@ -35,11 +34,11 @@ use Rattle.stencil.specs.Id.{startOf, cutId, idOf}
 use Rattle.stencil.proofs.Valid.{Valid, corner-inside}
 use Rattle.stencil.proofs.Listed.{listed-valid}
 use Rattle.geometry.specs.Place.{Place, placeOf}
-use Rattle.filling.specs.Check.{crossesTo, crosses, cutFault}
+use Rattle.filling.specs.Check.{crossesTo, cutFault}
 use Rattle.filling.specs.Mesh.{rowVolume, oriented, labelsIn, rowsIn, rowsWith, meshOf}
 use Rattle.filling.proofs.Accepted.{Accepted}
 use Rattle.volumes.proofs.Between.{codeIn, between-code, between-leads}
-use Rattle.volumes.proofs.Built.{same, same-use, stands, hangs, fits, builtOf, built}
+use Rattle.volumes.proofs.Built.{same, stands, fits, builtOf, built}
 use Rattle.volumes.proofs.BuiltTest.{rows-built}
 use Rattle.agree.proofs.Agree.{answerTo, standsAt, point-agrees, cut-agrees}
 

@@ -1,8 +1,8 @@
 -- The parts of the place call, case by case, and that together they are `locate`. Assumes nothing.
-use Prim.Native.Nat.{ℕ, zero, suc, _+_, _*_, _-_, _/_, _%_, _≤_, _<_}
+use Prim.Native.Nat.{ℕ, _+_, _*_, _-_, _/_, _%_, _≤_, _<_}
 use native.Mathlib.Omega.{arith}
 use native.Mathlib.Nat.{mul-le-mul}
-use mathlib.Core.Path.{_≡_, refl, sym, ap, _∙_, subst}
+use mathlib.Core.Path.{_≡_, refl, sym, ap, _∙_}
 use mathlib.Core.Logic.{_⊎_, inl, inr}
 use mathlib.Core.Bool.{Bool, true, false, not}
 use mathlib.Core.List.{List}
@@ -16,15 +16,14 @@ use Rattle.lattice.specs.declared.Sizes.{Sizes}
 use Rattle.lattice.specs.declared.Near.{Near}
 use Rattle.lattice.specs.declared.Near.the-variants.{At, Nothing}
 use Rattle.lattice.specs.Axis.{Axis, along-x, along-y, along-z}
-use Rattle.lattice.specs.Counts.{Sized, sizesFit, points}
+use Rattle.lattice.specs.Counts.{sizesFit, points}
 use Rattle.lattice.specs.Point.{doubled, kindOf, indexOf}
 use Rattle.lattice.specs.Direction.{Code, isStart, direction, step}
 use Rattle.lattice.specs.Edge.{neighbour, byteAt, edgeByte}
 use Rattle.lattice.proofs.Codes.{one-way}
-use Rattle.lattice.proofs.Edge.{FarEnd, far}
+use Rattle.lattice.proofs.Edge.{far}
 use Rattle.moving.specs.Violation.{measured, violates}
-use Rattle.geometry.specs.Place.{latticePlace, rest, signed, cutPlace, movedPlace, pointPlace, placeOf}
-use Rattle.filling.specs.declared.Placed.{Placed}
+use Rattle.geometry.specs.Place.{latticePlace, rest, cutPlace, movedPlace, pointPlace, placeOf}
 use Rattle.filling.specs.Located.{reaches, believable, standsTo, stands, idFault, locate}
 use Rattle.places.specs.declared.Place.{Place}
 use Rattle.places.specs.Places.{placeAt, along, Nonnegative}

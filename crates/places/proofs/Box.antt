@@ -104,6 +104,12 @@ module _ {A B : ℕ} {x y a b : ℤ} (p : Is A x a) (q : Is B y b) where
 pub result-is : (v : ℤ) {z : ℤ} → mag v < 2 ^ 63 → v ≡ z → back v ≡ z
 result-is v h e = toZ-ofZ w64 v (record { sfits = h }) ∙ e
 
+-- a coordinate of a place in a box, read
+pub at : {A : ℕ} {p : Place} → InBox A p → T (ltb A (2 ^ 63)) → (a : Axis) → Is A (back (placeAt p a)) (placeAt p a)
+at h t along-x = held (h .in-x) t
+at h t along-y = held (h .in-y) t
+at h t along-z = held (h .in-z) t
+
 -- a place from its three coordinates, and the box around it
 pub place-is : (f : Axis → ℤ) {x y z : ℤ} → x ≡ f along-x → y ≡ f along-y → z ≡ f along-z → placeAt (record { x = x; y = y; z = z }) ≡ f
 place-is f {x} {y} {z} ex ey ez = λ i a. by-axis a i
@@ -117,7 +123,10 @@ pub box-of : {A : ℕ} {x y z a b c : ℤ} → Is A x a → Is A y b → Is A z 
 box-of p q r = record { in-x = rw (p .eq) (p .inside); in-y = rw (q .eq) (q .inside); in-z = rw (r .eq) (r .inside) }
 
 pub box-wider : {p : Place} → InBox latticeBox p → InBox placeBox p
-box-wider h = record { in-x = wider placeBox (omega arith) (h .in-x); in-y = wider placeBox (omega arith) (h .in-y); in-z = wider placeBox (omega arith) (h .in-z) }
+box-wider h = record { in-x = more (h .in-x); in-y = more (h .in-y); in-z = more (h .in-z) }
+  where
+    more : {z : ℤ} → Within latticeBox z → Within placeBox z
+    more w = wider placeBox (omega arith) w
 
 -- a number that is not below 0 is cast to a u32
 pub cast-up : {z : ℤ} → Within placeBox z → z ≡ pos (natAbs z) → T (nonNeg (back z)) × Fits w32 (natAbs (back z))

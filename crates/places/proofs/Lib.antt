@@ -1,4 +1,5 @@
 pub mod Box
+pub mod Terms
 pub mod Standing
 pub mod FromEnd
 pub mod Decoded

@@ -27,8 +27,8 @@ rested k {odd} {i} {v} o h f e =
 
 -- a coordinate t steps away, as the code computes it from the numbers of a step
 pub stepped-is : {x v : ℤ} {up down : ℕ} (w : Step) (t : ℕ) → up ≡ w .up → down ≡ w .down → Within latticeBox x → mag v < 2 ^ 63
-    → v ≡ back x +ℤ pos t *ℤ (pos up -ℤ pos down) → Within placeBox v → Is placeBox (back v) (x +ℤ pos t *ℤ signed w)
-stepped-is {x} {v} {up} {down} w t eu ed h f e b =
+    → (v ≡ back x +ℤ pos t *ℤ (pos up -ℤ pos down)) × Within placeBox v → Is placeBox (back v) (x +ℤ pos t *ℤ signed w)
+stepped-is {x} {v} w t eu ed h f (e, b) =
     let is : v ≡ x +ℤ pos t *ℤ signed w = e ∙ (λ i. held h tt .eq i +ℤ pos t *ℤ (pos (eu i) -ℤ pos (ed i))) in
     record { eq = result-is v f is; inside = subst (λ (z : ℤ). Within placeBox z) is b }
 

@@ -1,7 +1,6 @@
 -- The place call in the parts that the code has: among tables of the right lengths, what it answers for a point and for a cut.
 -- That these are `locate` of crates/filling is shown in proofs/Answers.antt.
 use Prim.Native.Nat.{ℕ, _/_, _%_}
-use mathlib.Core.Bool.{Bool}
 use mathlib.Core.List.{List}
 use lib.IntN.{ℤ, natAbs}
 use lib.ListN.{getD}

@@ -1,11 +1,11 @@
 -- The cut of an edge between two points that have not moved; or 8. Assumes nothing.
 use native.Mathlib.Omega.{arith}
-use Prim.Native.Nat.{ℕ, _+_, _*_, _/_, _%_, _<_}
-use mathlib.Core.Path.{_≡_, sym, ap, _∙_}
+use Prim.Native.Nat.{_+_, _/_, _%_}
+use mathlib.Core.Path.{sym, ap, _∙_}
 use lib.IntN.{ℤ}
 use lib.ListN.{getD}
 use Rattle.lattice.specs.Axis.{Axis}
-use Rattle.lattice.specs.Direction.{Code, direction, step}
+use Rattle.lattice.specs.Direction.{direction}
 use Rattle.lattice.proofs.Edge.{neighbour-lt}
 use Rattle.warp.proofs.Next.{siting}
 use Rattle.places.specs.Places.{along}

@@ -14,7 +14,8 @@ led-requires c κs = search needs
 returns : tie.Need-returns
 returns c =
     let a = c .before .before .args in
-    (c .led .ensures .0 ∙ ap (λ (n : ℕ). along (placeAt (a .rest)) (step (a .code)) n) (sym (measured-start (a .code) (a .t) (c .before .if1 .taken))), c .led .ensures .1)
+    let m = measured-start (a .code) (a .t) (c .before .if1 .taken) in
+    (c .led .ensures .0 ∙ ap (λ (n : ℕ). along (placeAt (a .rest)) (step (a .code)) n) (sym m), c .led .ensures .1)
 
 sub-led : tie.Need-sub-led
 sub-led c = search needs
@@ -25,7 +26,8 @@ led-requires-2 c κs = search needs
 returns-2 : tie.Need-returns-2
 returns-2 c =
     let a = c .before .before .args in
-    (c .led2 .ensures .0 ∙ ap (λ (n : ℕ). along (placeAt (a .rest)) (step (a .code)) n) (sym (measured-end (a .code) (a .t) (c .before .if1 .left))), c .led2 .ensures .1)
+    let m = measured-end (a .code) (a .t) (c .before .if1 .left) in
+    (c .led2 .ensures .0 ∙ ap (λ (n : ℕ). along (placeAt (a .rest)) (step (a .code)) n) (sym m), c .led2 .ensures .1)
 
 pub moved-place-spec : {M : Type 1} → statement M
 moved-place-spec = tie.close (tie.spec led-requires returns sub-led led-requires-2 returns-2)

@@ -1,8 +1,5 @@
 -- One coordinate an axis. Assumes nothing.
 use native.Mathlib.Omega.{arith}
-use mathlib.Core.Path.{sym, ap, _∙_}
-use Prim.Native.Nat.{ℕ, _*_}
-use lib.IntN.{pos}
 use Rattle.lattice.specs.Axis.{xyz}
 use Rattle.lattice.proofs.Sites.{odd-small}
 use Rattle.geometry.specs.Place.{latticePlace}

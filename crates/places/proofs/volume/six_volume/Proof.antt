@@ -1,5 +1,4 @@
 -- The product of the three differences. Assumes nothing.
-use mathlib.Core.Path.{_∙_}
 use Rattle.geometry.specs.Volume.{triple, sixVolume}
 use Rattle.places.proofs.Box.{result-is}
 use borrow.Author.Needs.{needs}
