@@ -1,3 +1,4 @@
 pub mod Signs
 pub mod Next
 pub mod Codes
+pub mod Starts
