@@ -90,3 +90,32 @@ pub fn cut_by(s: Sizes, cuts: &[u8], q: Site, code: usize) -> u8
     }
     0
 }
+
+// No cut on the edges that start at a point: the seven bytes of its part of the cut table are zero.
+pub fn starts_no_cut(part: &[u8]) -> bool
+    requires { ⌜ length (now part) ≡ 7 ⌝ }
+    ensures { λ r. ⌜ (r ≡ true → (d : ℕ) → d < 7 → getD (now (part .entry)) d 0 ≡ 0) ⌝ }
+{
+    for d in 0..7 {
+        if part[d] != 0 {
+            return false;
+        }
+    }
+    true
+}
+
+// No cut on the edges that end at a point.
+pub fn ends_no_cut(s: Sizes, cuts: &[u8], q: Site) -> bool
+    requires { ⌜ Sized s ⌝ }
+    requires { ⌜ Sited s q ⌝ }
+    ensures { λ r. ⌜ (r ≡ true → (d : ℕ) → d < 7 → (e : ℕ) → near s (q .kind) (index q) (d + 8) ≡ At e → getD (now (cuts .entry)) (edgeByte (q .own) (d + 8) e) 0 ≡ 0) ⌝ }
+{
+    let along_x = cut_by(s, cuts, q, 8) as usize;
+    let along_y = cut_by(s, cuts, q, 9) as usize;
+    let along_z = cut_by(s, cuts, q, 10) as usize;
+    let first = cut_by(s, cuts, q, 11) as usize;
+    let second = cut_by(s, cuts, q, 12) as usize;
+    let third = cut_by(s, cuts, q, 13) as usize;
+    let fourth = cut_by(s, cuts, q, 14) as usize;
+    along_x + along_y + along_z + (first + second + third + fourth) == 0
+}
