@@ -4,6 +4,7 @@ use native.Mathlib.Nat.{mul-add, add-mul, mul-le-mul-left, le-mul-of-pos-right}
 use native.Mathlib.Omega.{arith}
 use mathlib.Core.Path.{_≡_, refl, sym, ap, _∙_}
 use mathlib.Core.Bool.{Bool, true, false}
+use lib.Dec.{eqb}
 use borrow.Author.Tests.{le-leb, lt-leb, ne-eqb}
 use Rattle.basics.proofs.Test.{true-T}
 use Rattle.lattice.specs.declared.Sizes.{Sizes}
@@ -66,13 +67,17 @@ module _ (s : Sizes) (i : Axis → ℕ) (own low : ℕ) where
       (λ e n. omega (arith, strides s Centre i 13 e (ending 5 (omega arith)) n))
       (λ e n. omega (arith, strides s Centre i 14 e (ending 6 (omega arith)) n))
 
+ne : (d k : ℕ) → k < d → eqb d k ≡ false
+ne d k h = ne-eqb d k (λ e. omega arith)
+
 -- the last of the seven
 pub back-last : (line layer wide own low d : ℕ) → 6 ≤ d → low + wide + 1 ≡ startBack line layer wide own low d
 unfolding startBack
 back-last line layer wide own low d h =
-    simp (ne-eqb d 0 (λ e. omega arith), ne-eqb d 1 (λ e. omega arith), ne-eqb d 2 (λ e. omega arith), ne-eqb d 3 (λ e. omega arith), ne-eqb d 4 (λ e. omega arith), ne-eqb d 5 (λ e. omega arith))
+    simp (ne d 0 (omega arith), ne d 1 (omega arith), ne d 2 (omega arith), ne d 3 (omega arith), ne d 4 (omega arith), ne d 5 (omega arith))
 
-pub back-small : (line layer wide own low d : ℕ) → own ≤ 1000000 → low ≤ 1000000 → wide ≤ 65 → d < 7 → startBack line layer wide own low d ≤ 1100000
+pub back-small : (line layer wide own low d : ℕ) → own ≤ 1000000 → low ≤ 1000000 → wide ≤ 65 → d < 7
+    → startBack line layer wide own low d ≤ 1100000
 unfolding startBack
 back-small line layer wide own low d h g w =
     by-direction (λ d. startBack line layer wide own low d ≤ 1100000)

@@ -72,16 +72,24 @@ add-result-6 : tie.Need-add-result-6
 add-result-6 c = search needs
 
 returns : tie.Need-returns
-returns c = λ t.
-    let a = c .before .before .before .before .before .before .before .before .args in
-    let z = all-zero (c .before .before .before .before .before .before .cut-by .result) (c .before .before .before .before .before .cut-by2 .result) (c .before .before .before .before .cut-by3 .result) (c .before .before .before .cut-by4 .result) (c .before .before .cut-by5 .result) (c .before .cut-by6 .result) (c .cut-by7 .result) t in
-    by-direction (λ d. (e : ℕ) → near (a .s) (a .q .kind) (index (a .q)) (d + 8) ≡ At e → getD (a .cuts .now) (edgeByte (a .q .own) (d + 8) e) 0 ≡ 0)
-    (λ e n. sym (c .before .before .before .before .before .before .cut-by .ensures e n) ∙ z .0)
-    (λ e n. sym (c .before .before .before .before .before .cut-by2 .ensures e n) ∙ z .1)
-    (λ e n. sym (c .before .before .before .before .cut-by3 .ensures e n) ∙ z .2)
-    (λ e n. sym (c .before .before .before .cut-by4 .ensures e n) ∙ z .3)
-    (λ e n. sym (c .before .before .cut-by5 .ensures e n) ∙ z .4)
-    (λ e n. sym (c .before .cut-by6 .ensures e n) ∙ z .5)
+returns c =
+    let k6 = c .before in
+    let k5 = k6 .before in
+    let k4 = k5 .before in
+    let k3 = k4 .before in
+    let k2 = k3 .before in
+    let k1 = k2 .before in
+    let a = k1 .before .before .args in
+    λ t.
+    let z = all-zero (k1 .cut-by .result) (k2 .cut-by2 .result) (k3 .cut-by3 .result) (k4 .cut-by4 .result) (k5 .cut-by5 .result) (k6 .cut-by6 .result) (c .cut-by7 .result) t in
+    by-direction (λ d. (e : ℕ) → near (a .s) (a .q .kind) (index (a .q)) (d + 8) ≡ At e
+    → getD (a .cuts .now) (edgeByte (a .q .own) (d + 8) e) 0 ≡ 0)
+    (λ e n. sym (k1 .cut-by .ensures e n) ∙ z .0)
+    (λ e n. sym (k2 .cut-by2 .ensures e n) ∙ z .1)
+    (λ e n. sym (k3 .cut-by3 .ensures e n) ∙ z .2)
+    (λ e n. sym (k4 .cut-by4 .ensures e n) ∙ z .3)
+    (λ e n. sym (k5 .cut-by5 .ensures e n) ∙ z .4)
+    (λ e n. sym (k6 .cut-by6 .ensures e n) ∙ z .5)
     (λ e n. sym (c .cut-by7 .ensures e n) ∙ z .6)
 
 pub ends-no-cut-spec : {M : Type 1} → statement M

@@ -50,16 +50,20 @@ start-back-requires-2 c κs = let a = c .before .before .before in omega (arith,
 
 returns : tie.Need-returns
 returns c =
-    let a = c .before .before .before .before .before .before in (
-      site-corner (a .args .s) (a .args .q) (a .pre .1 .0) (c .before .before .before .before .enum-told .given .1) _ (a .pre .1 .1) _ (c .start-back .ensures),
-      rw (c .start-back .ensures) (back-small _ _ _ _ _ _ (omega (arith, numbers-small (a .args .s) (a .args .q) (a .pre .0) (a .pre .1 .0))) (omega (arith, numbers-small (a .args .s) (a .args .q) (a .pre .0) (a .pre .1 .0))) (omega arith) (a .pre .1 .1)),
+    let a = c .before .before .before .before .before .before in
+    let n = numbers-small (a .args .s) (a .args .q) (a .pre .0) (a .pre .1 .0) in
+    let r = c .start-back .ensures in (
+      site-corner (a .args .s) (a .args .q) (a .pre .1 .0) (c .before .before .before .before .enum-told .given .1) _ (a .pre .1 .1) _ r,
+      rw r (back-small _ _ _ _ _ _ (omega arith) (omega arith) (omega arith) (a .pre .1 .1)),
     )
 
 returns-2 : tie.Need-returns-2
 returns-2 c =
-    let a = c .before .before .before .before in (
-      site-centre (a .args .s) (a .args .q) (a .pre .1 .0) (c .before .before .enum-told2 .given .1) _ (a .pre .1 .1) _ (c .start-back2 .ensures),
-      rw (c .start-back2 .ensures) (back-small _ _ _ _ _ _ (omega (arith, numbers-small (a .args .s) (a .args .q) (a .pre .0) (a .pre .1 .0))) (omega (arith, numbers-small (a .args .s) (a .args .q) (a .pre .0) (a .pre .1 .0))) (omega arith) (a .pre .1 .1)),
+    let a = c .before .before .before .before in
+    let n = numbers-small (a .args .s) (a .args .q) (a .pre .0) (a .pre .1 .0) in
+    let r = c .start-back2 .ensures in (
+      site-centre (a .args .s) (a .args .q) (a .pre .1 .0) (c .before .before .enum-told2 .given .1) _ (a .pre .1 .1) _ r,
+      rw r (back-small _ _ _ _ _ _ (omega arith) (omega arith) (omega arith) (a .pre .1 .1)),
     )
 
 pub start-of-spec : {M : Type 1} → statement M

@@ -2,10 +2,8 @@
 use native.Mathlib.Omega.{arith}
 use Prim.Native.Nat.{ℕ, _+_, _*_, _-_}
 use mathlib.Core.Path.{_≡_}
-use Rattle.lattice.proofs.Bounds.{points-small}
 use Rattle.warp.proofs.Signs.{bits-zero}
-use Rattle.warp.proofs.Next.{site-lt}
-use Rattle.warp.proofs.Idle.{idle-sample, idle-cuts}
+use Rattle.warp.proofs.Idle.{own-fits, idle-sample, idle-cuts}
 use borrow.Author.Needs.{needs}
 use Rattle.warp.proofs.moves.is_idle.Statement.{statement}
 use Rattle.warp.proofs.moves.is_idle.Tie as tie
@@ -13,12 +11,12 @@ use Rattle.warp.proofs.moves.is_idle.Tie as tie
 mul-if1 : tie.Need-mul-if1
 mul-if1 c =
     let a = c .before in
-    omega (arith, site-lt (a .args .s) (a .args .q) (a .pre .0 .sized) (a .pre .1), points-small (a .args .s) (a .pre .0 .sized), a .pre .0 .samples-long, a .pre .0 .cuts-long)
+    omega (arith, own-fits (a .args .s) (a .args .samples .now) (a .args .cuts .now) (a .args .q) (a .pre .0) (a .pre .1))
 
 shared-slice-copy-out-if1 : tie.Need-shared-slice-copy-out-if1
 shared-slice-copy-out-if1 c =
     let a = c .before in
-    omega (arith, site-lt (a .args .s) (a .args .q) (a .pre .0 .sized) (a .pre .1), points-small (a .args .s) (a .pre .0 .sized), a .pre .0 .samples-long, a .pre .0 .cuts-long)
+    omega (arith, own-fits (a .args .s) (a .args .samples .now) (a .args .cuts .now) (a .args .q) (a .pre .0) (a .pre .1))
 
 returns : tie.Need-returns
 returns c = λ t. idle-sample _ _ (bits-zero _ (c .before .if12 .given) (c .if1 .taken))
@@ -26,12 +24,12 @@ returns c = λ t. idle-sample _ _ (bits-zero _ (c .before .if12 .given) (c .if1 
 mul-at : tie.Need-mul-at
 mul-at c =
     let a = c .before .before .before in
-    omega (arith, site-lt (a .args .s) (a .args .q) (a .pre .0 .sized) (a .pre .1), points-small (a .args .s) (a .pre .0 .sized), a .pre .0 .samples-long, a .pre .0 .cuts-long)
+    omega (arith, own-fits (a .args .s) (a .args .samples .now) (a .args .cuts .now) (a .args .q) (a .pre .0) (a .pre .1))
 
 add-starts-no-cut : tie.Need-add-starts-no-cut
 add-starts-no-cut c =
     let a = c .before .before .before in
-    omega (arith, site-lt (a .args .s) (a .args .q) (a .pre .0 .sized) (a .pre .1), points-small (a .args .s) (a .pre .0 .sized), a .pre .0 .samples-long, a .pre .0 .cuts-long)
+    omega (arith, own-fits (a .args .s) (a .args .samples .now) (a .args .cuts .now) (a .args .q) (a .pre .0) (a .pre .1))
 
 sub-starts-no-cut : tie.Need-sub-starts-no-cut
 sub-starts-no-cut c = search needs
@@ -42,7 +40,7 @@ part-starts-no-cut-start c = search needs
 part-starts-no-cut-end : tie.Need-part-starts-no-cut-end
 part-starts-no-cut-end c =
     let a = c .before .before .before in
-    omega (arith, site-lt (a .args .s) (a .args .q) (a .pre .0 .sized) (a .pre .1), points-small (a .args .s) (a .pre .0 .sized), a .pre .0 .samples-long, a .pre .0 .cuts-long)
+    omega (arith, own-fits (a .args .s) (a .args .samples .now) (a .args .cuts .now) (a .args .q) (a .pre .0) (a .pre .1))
 
 starts-no-cut-requires : tie.Need-starts-no-cut-requires
 starts-no-cut-requires c κs = search needs
@@ -53,7 +51,8 @@ ends-no-cut-requires c κs = search needs
 returns-2 : tie.Need-returns-2
 returns-2 c =
     let a = c .before .before .before .before .before .before .before in
-    λ t. idle-cuts _ (a .args .q) (a .pre .0 .sized) (a .pre .1) (7 * a .args .q .own + 7 - 7 * a .args .q .own) (omega arith) (c .before .before .starts-no-cut .ensures (c .before .if2 .taken)) (c .ends-no-cut .ensures t)
+    λ t. idle-cuts _ (a .args .q) (a .pre .0 .sized) (a .pre .1) (7 * a .args .q .own + 7 - 7 * a .args .q .own) (omega arith)
+    (c .before .before .starts-no-cut .ensures (c .before .if2 .taken)) (c .ends-no-cut .ensures t)
 
 returns-3 : tie.Need-returns-3
 returns-3 c = λ t. let z : _≡_ {A = ℕ} 0 1 = cc in absurd (omega arith)

@@ -21,8 +21,17 @@ is-violated-along-requires c κs =
     let a = c .before .before .before .before .before .before in
     let g = c .before .far .given in
     let l = site-lt (a .args .s) (a .args .q) (a .pre .0 .sized) (a .pre .1 .1) in
-    let e = site-near (a .args .s) (a .args .q) (a .pre .0 .sized) (a .pre .1 .1) (a .args .code) in
-    (a .pre .0, (a .pre .1 .0, (l, neighbour-lt (a .args .s) (a .args .q .own) (a .args .code) (g .0 .0) l (a .pre .1 .0) (e ∙ sym (c .before .before .before .neighbour .ensures) ∙ g .1))))
+    let e = site-near (a .args .s) (a .args .q) (a .pre .0 .sized) (a .pre .1 .1) (a .args .code) in (
+      a .pre .0,
+      (
+        a .pre .1 .0,
+        (
+          l,
+          neighbour-lt (a .args .s) (a .args .q .own) (a .args .code) (g .0 .0) l (a .pre .1 .0)
+              (e ∙ sym (c .before .before .before .neighbour .ensures) ∙ g .1),
+        ),
+      ),
+    )
 
 returns : tie.Need-returns
 unfolding violatedAlong

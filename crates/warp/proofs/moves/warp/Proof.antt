@@ -12,7 +12,8 @@ use Rattle.moving.specs.Block.{blockOf}
 use Rattle.moving.specs.Moving.{codes}
 use Rattle.filling.specs.Fill.{movedCount}
 use Rattle.warp.proofs.Next.{siting, some-point}
-use Rattle.warp.proofs.Codes.{Searching, search-starts, search-on, search-ends, search-finds, at-point, Warped, warped-next, warped-whole, warped-few, count-move, count-stay}
+use Rattle.warp.proofs.Codes.{Searching, search-starts, search-on, search-ends, search-finds, at-point}
+use Rattle.warp.proofs.Codes.{Warped, warped-next, warped-whole, warped-few, count-move, count-stay}
 use Rattle.warp.proofs.Idle.{search-idle}
 use Rattle.warp.proofs.moves.warp.Statement.{statement}
 use Rattle.warp.proofs.moves.warp.Tie as tie
@@ -47,8 +48,10 @@ is-idle-requires c κs = (c .before .before .before .before .before .before .pre
 
 search-holds : tie.Need-search-holds Inv-search μ-search Inv-loop μ-loop
 search-holds c =
-    let i = c .before .before .before .loop .inv in
-    ⊎-elim (λ w. rw (w .1) (search-idle _ (rw (i .here (c .before .before .loop-test .taken)) at (c .before .is-idle .ensures (w .0 .taken))))) (λ w. rw (w .1) search-starts)
+    let d = c .before .before .before in
+    let i = d .loop .inv in
+    let l = c .before .before .loop-test .taken in
+    ⊎-elim (λ w. rw (w .1) (search-idle _ (rw (i .here l) at (c .before .is-idle .ensures (w .0 .taken))))) (λ w. rw (w .1) search-starts)
     (c .if1 .came)
 
 slice-reshare-prefix-is-violated :
@@ -60,10 +63,12 @@ slice-aggregate-is-violated :
 slice-aggregate-is-violated c = sym (length-take-le _ _ (omega arith))
 
 is-violated-requires : tie.Need-is-violated-requires Inv-search μ-search Inv-loop μ-loop
-is-violated-requires c κs = (
-  c .before .before .before .before .before .before .before .before .before .before .before .before .pre .0,
-  (record { low = c .before .before .before .search .inv .low; high = c .before .before .if2 .left }, c .before .before .before .before .before .before .before .loop .inv .sited (c .before .before .before .before .before .before .loop-test .taken)),
-)
+is-violated-requires c κs =
+    let d = c .before .before in
+    let l = d .before .before .before .before .before .loop in (
+      d .before .before .before .before .before .before .before .before .before .before .pre .0,
+      (record { low = d .before .search .inv .low; high = d .if2 .left }, l .inv .sited (d .before .before .before .before .loop-test .taken)),
+    )
 
 add-code : tie.Need-add-code Inv-search μ-search Inv-loop μ-loop
 add-code c = omega arith
@@ -73,8 +78,10 @@ search-less c = omega arith
 
 search-again : tie.Need-search-again Inv-search μ-search Inv-loop μ-loop
 search-again c =
-    search-on (c .before .before .before .before .before .search .inv) (c .before .before .before .before .if2 .left)
-    (at-point _ _ _ (c .before .is-violated .ensures) (c .before .before .before .before .before .before .before .before .before .loop .inv .here (c .before .before .before .before .before .before .before .before .loop-test .taken)) (c .if3 .left))
+    let d = c .before .before .before .before in
+    search-on (d .before .search .inv) (d .if2 .left)
+    (at-point _ _ _ (c .before .is-violated .ensures) (d .before .before .before .before .before .loop .inv .here (d .before .before .before .before .loop-test .taken))
+    (c .if3 .left))
 
 slice-write-state : tie.Need-slice-write-state Inv-search μ-search Inv-loop μ-loop
 slice-write-state c = omega arith
@@ -108,7 +115,8 @@ loop-again c =
     (⊎-elim (λ w. search-ends j (w .0 .taken) ∙ sym (w .1))
     (λ w. search-finds j (w .0 .left) (at-point _ _ _ (w .3 .ensures) (i .here l) (w .4 .taken)) ∙ sym (w .5)) (c .before .before .if2 .came))
     (⊎-elim (λ w. count-move _ _ _ (w .0 .taken) (w .1)) (λ w. count-stay _ _ _ (w .0 .left) (w .1)) (c .before .if4 .came))
-    (λ g. ⊎-elim (λ w. siting (a .args .s) _ _ (w .2 ∙ w .1 .ensures ∙ ap (λ (n : ℕ). siteOf (a .args .s) (n + 1)) (i .here l)) (omega arith))
+    (λ g. ⊎-elim
+    (λ w. siting (a .args .s) _ _ (w .2 ∙ w .1 .ensures ∙ ap (λ (n : ℕ). siteOf (a .args .s) (n + 1)) (i .here l)) (omega arith))
     (λ w. absurd (omega (arith, w .0 .left))) (c .if5 .came))
 
 same-length : tie.Need-same-length Inv-search μ-search Inv-loop μ-loop
