@@ -1,8 +1,10 @@
 // The public calls of Yakuemi. None of them has a `requires`: whatever is handed in is answered,
 // by a number of document 01.
+mod fill;
 mod measures;
 mod place;
 
+pub use fill::yakuemi_fill;
 pub use measures::Measures;
 pub use measures::yakuemi_measures;
 pub use place::yakuemi_place;

@@ -1,0 +1,17 @@
+-- Demand 3 of the rows that a call of filling leaves in the lent table. Assumes that cut bytes are bytes, and nothing else.
+use Prim.Native.Nat.{ℕ}
+use mathlib.Core.Path.{_≡_, sym, ap, _∙_}
+use mathlib.Core.List.{List}
+use Rattle.moving.specs.Block.{Block}
+use Rattle.geometry.specs.Place.{placeOf}
+use Rattle.filling.specs.declared.Filled.{Filled}
+use Rattle.filling.specs.Demand.{Conforms, OnSkin, rowsRead}
+use Rattle.mesh.proofs.Warp.{Bytes}
+use Rattle.mesh.proofs.Demand3.{demand-3-written}
+use Rattle.yakuemi.specs.Fills.{Fills}
+
+pub conforming : (b : Block) (state rows : List ℕ) (r : Filled) (stateAfter rowsAfter : List ℕ) → Fills b state rows r stateAfter rowsAfter → Bytes b
+    → r .number ≡ 0 → Conforms (rowsRead rowsAfter (r .rows)) (placeOf (b .sizes) (b .cuts) stateAfter) (OnSkin b)
+conforming b state rows r stateAfter rowsAfter f bytes e =
+    rw (f .rows-are, f .state-is, ap (λ (r : Filled). r .rows) (f .answer))
+    (demand-3-written b state rows bytes (sym (ap (λ (r : Filled). r .number) (f .answer)) ∙ e))
