@@ -47,7 +47,8 @@ module _ (b : Block) where
       code : ℕ
       code = choice b (codes b p) p
 
-      go : Dec (code ≡ 0) → (if eqb code 0 then true else leb code 14 && reaches (b .sizes) (b .cuts) (stateOf b) p code (neighbour (b .sizes) p code)) ≡ true
+      go : Dec (code ≡ 0)
+          → (if eqb code 0 then true else leb code 14 && reaches (b .sizes) (b .cuts) (stateOf b) p code (neighbour (b .sizes) p code)) ≡ true
       go (yes e) = rw (eq-eqb code 0 e) refl
       go (no n) =
           let v = choice-violates b (codes b p) p n in
@@ -69,11 +70,14 @@ module _ (b : Block) where
         → getD (stateOf b) p 0 ≡ 0 → getD (stateOf b) q 0 ≡ 0 → answerTo b (cutId (b .sizes) p d) ≡ standsAt b (cutId (b .sizes) p d)
     unfolding idFault stands standsTo
     cut-agrees p d q l u e n x y =
-        faultless (cutId (b .sizes) p d)
-        (rw (le-ltb (cutId (b .sizes) p d) (points (b .sizes)) (omega arith), lt-leb (8 * points (b .sizes)) (cutId (b .sizes) p d) (omega arith), start, way, e, ne-eqb _ _ n, eq-eqb _ _ x, eq-eqb _ _ y) refl)
+        faultless id
+        (rw (le-ltb id (points (b .sizes)) (omega arith), lt-leb (8 * points (b .sizes)) id (omega arith), start, way, e, ne-eqb _ _ n, eq-eqb _ _ x, eq-eqb _ _ y) refl)
       where
-        start : (cutId (b .sizes) p d - points (b .sizes)) / 7 ≡ p
+        id : ℕ
+        id = cutId (b .sizes) p d
+
+        start : (id - points (b .sizes)) / 7 ≡ p
         start = omega arith
 
-        way : (cutId (b .sizes) p d - points (b .sizes)) % 7 ≡ d
+        way : (id - points (b .sizes)) % 7 ≡ d
         way = omega arith
