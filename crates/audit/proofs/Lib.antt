@@ -4,3 +4,6 @@ pub mod Faults
 pub mod Points
 pub mod Crossing
 pub mod Outside
+pub mod Reach
+pub mod CornerEnds
+pub mod CentreEnds

@@ -1,12 +1,16 @@
 -- Document 01, "Calls and refusals": refusals 6 and 7, and what the search for them answers.
-use Prim.Native.Nat.{ℕ, zero, suc, _+_, _*_}
+use Prim.Native.Nat.{ℕ, zero, suc, _+_, _*_, _<_}
 use mathlib.Core.Path.{_≡_}
 use mathlib.Core.Bool.{Bool, false}
 use mathlib.Core.List.{List, [], _∷_}
-use lib.ListN.{getD}
+use lib.IntN.{ℤ}
+use lib.ListN.{length, getD}
 use lib.Dec.{eqb, ltb}
 use Rattle.basics.specs.Choice.{if_then_else_}
-use Rattle.lattice.specs.Counts.{points}
+use Rattle.lattice.specs.declared.Sizes.{Sizes}
+use Rattle.lattice.specs.declared.Site.{Site}
+use Rattle.lattice.specs.Counts.{Sized, points}
+use Rattle.lattice.specs.Site.{siteOf}
 use Rattle.moving.specs.Block.{Block}
 use Rattle.filling.specs.Check.{crosses, cutFault, firstCut}
 use Rattle.audit.specs.declared.Fault.{Fault}
@@ -56,3 +60,10 @@ sevenFault must bytes = firstFault (λ d. getD must d false) (λ d. getD bytes d
 unfoldable pub crossingsAt : Block → ℕ → List Bool
 crossingsAt b p =
     crosses b p 0 ∷ crosses b p 1 ∷ crosses b p 2 ∷ crosses b p 3 ∷ crosses b p 4 ∷ crosses b p 5 ∷ crosses b p 6 ∷ []
+
+-- a decoded point of a block whose samples are all there
+pub record Asked (s : Sizes) (samples : List ℤ) (q : Site) : Type 0 where
+  pub sized : Sized s
+  pub long : length samples ≡ points s
+  pub is : q ≡ siteOf s (q .own)
+  pub below : q .own < points s

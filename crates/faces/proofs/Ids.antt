@@ -17,6 +17,7 @@ use Rattle.lattice.specs.Counts.{points}
 use Rattle.lattice.specs.Point.{doubled, number}
 use Rattle.lattice.specs.Direction.{direction, isStart, directionOf, step}
 use Rattle.lattice.proofs.Number.{number-inj, number-lt}
+use Rattle.lattice.proofs.Edge.{doubled-inj}
 use Rattle.stencil.specs.Tetrahedron.{Tetrahedron, Vertex, kind, offset, corner, cornerNumber}
 use Rattle.stencil.specs.Stencil.{Entry, between, rank}
 use Rattle.stencil.specs.Id.{leadsTo, codeBetween, startOf, cutId, idOf}
@@ -31,12 +32,6 @@ doubled-add : (k : Kind) (b o : ℕ) → doubled k (b + o) ≡ 2 * b + doubled k
 doubled-add Corner b o = omega arith
 doubled-add Centre b o = omega arith
 
-doubled-inj : (k l : Kind) (i j : ℕ) → doubled k i ≡ doubled l j → (k ≡ l) × (i ≡ j)
-doubled-inj Corner Corner i j e = (refl, omega arith)
-doubled-inj Corner Centre i j e = absurd (omega arith)
-doubled-inj Centre Corner i j e = absurd (omega arith)
-doubled-inj Centre Centre i j e = (refl, omega arith)
-
 -- tests of equal numbers that say the same
 eqb-iff : (a b c d : ℕ) → (a ≡ b → c ≡ d) → (c ≡ d → a ≡ b) → eqb a b ≡ eqb c d
 eqb-iff a b c d f g = elim (decide (eqb a b)) [
@@ -49,22 +44,22 @@ eqb-shift m n a b c d p q e f = eqb-iff (a + p) (b + q) (c + p) (d + q) (λ g. o
 
 -- one tetrahedron: its corners in doubled coordinates, and its edges
 module _ (t : Tetrahedron) where
-  abbrev local : Vertex → Axis → ℕ
+  abbrev pub local : Vertex → Axis → ℕ
   local v x = doubled (kind v) (offset (t .axis) (t .edge) v x)
 
-  abbrev twice : Vertex → Axis → ℕ
+  abbrev pub twice : Vertex → Axis → ℕ
   twice v x = doubled (kind v) (corner t v x)
 
-  abbrev code : Vertex → Vertex → ℕ
+  abbrev pub code : Vertex → Vertex → ℕ
   code u v = codeBetween (t .axis) (t .edge) u v
 
-  abbrev start : Vertex → Vertex → Vertex
+  abbrev pub start : Vertex → Vertex → Vertex
   start u v = startIn (t .axis) (t .edge) u v
 
-  abbrev finish : Vertex → Vertex → Vertex
+  abbrev pub finish : Vertex → Vertex → Vertex
   finish u v = finishIn (t .axis) (t .edge) u v
 
-  abbrev way : Vertex → Vertex → ℕ
+  abbrev pub way : Vertex → Vertex → ℕ
   way u v = directionIn (t .axis) (t .edge) u v
 
   twice-is : (v : Vertex) (x : Axis) → twice v x ≡ 2 * t .cube x + local v x
@@ -78,32 +73,32 @@ module _ (t : Tetrahedron) where
       eqb→eq _ _ (imp-use (not (eqb (rank u) (rank v))) (leadsAlong (t .axis) (t .edge) u v x)
       (tested leading-ok (t .axis, (t .edge, (u, (v, x))))) (not-T (eqb (rank u) (rank v)) (λ p. ne (eqb→eq _ _ p))))
 
-  edge-leads : (u v : Vertex) → (rank u ≡ rank v → ⊥) → (x : Axis)
+  pub edge-leads : (u v : Vertex) → (rank u ≡ rank v → ⊥) → (x : Axis)
       → twice (finish u v) x + direction (way u v) x .down ≡ twice (start u v) x + direction (way u v) x .up
   edge-leads u v ne x = omega (arith, local-leads u v ne x, twice-is (finish u v) x, twice-is (start u v) x)
 
 -- an entry is a point or a cut, and so is its id
-point-or-cut : (u v : Vertex) → (u ≡ v) ⊎ (rank u ≡ rank v → ⊥)
+pub point-or-cut : (u v : Vertex) → (u ≡ v) ⊎ (rank u ≡ rank v → ⊥)
 point-or-cut u v = elim (decide (eqb (rank u) (rank v))) [
   | inl p ↦ inl (rank-inj u v (eqb→eq _ _ p))
   | inr p ↦ inr (λ e. T-not (eqb (rank u) (rank v)) p (eqb-of _ _ e))
 ]
 
-direction-lt : (c : ℕ) → directionOf c < 7
+pub direction-lt : (c : ℕ) → directionOf c < 7
 unfolding directionOf
 direction-lt c = omega arith
 
 module _ (s : Sizes) (t : Tetrahedron) where
-  id-point : (u v : Vertex) → u ≡ v → idOf s t (between u v) ≡ cornerNumber s t u
+  pub id-point : (u v : Vertex) → u ≡ v → idOf s t (between u v) ≡ cornerNumber s t u
   unfolding idOf
   id-point u v e = rw (T-true (eqb (rank u) (rank v)) (eqb-of _ _ (ap rank e)))
 
-  id-cut : (u v : Vertex) → (rank u ≡ rank v → ⊥) → idOf s t (between u v) ≡ cutId s (cornerNumber s t (start t u v)) (way t u v)
+  pub id-cut : (u v : Vertex) → (rank u ≡ rank v → ⊥) → idOf s t (between u v) ≡ cutId s (cornerNumber s t (start t u v)) (way t u v)
   unfolding idOf
   id-cut u v ne = rw (F-false (eqb (rank u) (rank v)) (λ p. ne (eqb→eq _ _ p)))
 
   module _ (h : Valid s t) where
-    point-low : (v : Vertex) → cornerNumber s t v < points s
+    pub point-low : (v : Vertex) → cornerNumber s t v < points s
     unfolding cornerNumber
     point-low v = number-lt s (kind v) (corner t v) (corner-inside s t h v)
 

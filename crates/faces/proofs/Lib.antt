@@ -13,3 +13,5 @@ pub mod Ids
 pub mod Signed
 pub mod LatticeComplex
 pub mod Faces
+pub mod EntryTests
+pub mod RowIds

@@ -72,7 +72,7 @@ pub isPlus-i : (l : Label) → l ≡ Plus → T (isPlus l)
 unfolding isPlus
 isPlus-i l e = subst (λ (x : Label). T (isPlus x)) (sym e) tt
 
-all-patterns : (f : Bool → (Vertex → Label) → Bool) → AllPatterns f → (s : Bool) (l : Vertex → Label) → T (f s l)
+pub all-patterns : (f : Bool → (Vertex → Label) → Bool) → AllPatterns f → (s : Bool) (l : Vertex → Label) → T (f s l)
 all-patterns f ok s l = subst (λ (k : Vertex → Label). T (f s k)) (λ i v. is v i) (tested ok (s, (l v0, (l v1, (l v2, l v3)))))
   where
     is : (v : Vertex) → labels (l v0, (l v1, (l v2, l v3))) v ≡ l v

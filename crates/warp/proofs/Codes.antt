@@ -79,7 +79,8 @@ module _ {b : Block} {done : List ℕ} {p : ℕ} where
       rw (← h .left, e) (simp (v, le-ltb 14 c l))
 
 -- the code's test at a site with the number p
-pub at-point : (b : Block) (done : List ℕ) (c : ℕ) {own p : ℕ} {r t : Bool} → r ≡ violatedBy b done own c → own ≡ p → r ≡ t → violatedBy b done p c ≡ t
+pub at-point : (b : Block) (done : List ℕ) (c : ℕ) {own p : ℕ} {r t : Bool} → r ≡ violatedBy b done own c → own ≡ p → r ≡ t
+    → violatedBy b done p c ≡ t
 at-point b done c e f g = ap (λ (n : ℕ). violatedBy b done n c) (sym f) ∙ sym e ∙ g
 
 -- how many codes of a list are not 0
@@ -114,7 +115,8 @@ module _ (b : Block) where
   unfolding codes
   codes-next state p c h e f = rw (add-one p, take-suc-set state p c h, ← f, e) refl
 
-  pub counted-next : (p c : ℕ) → choice b (codes b p) p ≡ c → movedCount (codes b (p + 1)) ≡ movedCount (codes b p) + (if not (eqb c 0) then 1 else 0)
+  pub counted-next : (p c : ℕ) → choice b (codes b p) p ≡ c
+      → movedCount (codes b (p + 1)) ≡ movedCount (codes b p) + (if not (eqb c 0) then 1 else 0)
   unfolding codes
   counted-next p c e = rw (add-one p, e) (count-snoc (codes b p) c)
 
@@ -124,8 +126,8 @@ module _ (b : Block) where
       omega (arith, w .counted, codes-length b p, count-le (λ j. not (eqb (getD (codes b p) j 0) 0)) (length (codes b p)))
 
   -- one more point: its code is written, counted, and the site goes on
-  pub warped-next : {n long : ℕ} {state : List ℕ} {q next : Site} {moved more p c : ℕ} → Warped b n long state q moved p → p < n → n ≡ long
-      → choice b (take p state) p ≡ c → more ≡ moved + (if not (eqb c 0) then 1 else 0)
+  pub warped-next : {n long : ℕ} {state : List ℕ} {q next : Site} {moved more p c : ℕ} → Warped b n long state q moved p
+      → p < n → n ≡ long → choice b (take p state) p ≡ c → more ≡ moved + (if not (eqb c 0) then 1 else 0)
       → (p + 1 < n → Sited (b .sizes) next × (next .own ≡ p + 1)) → Warped b n long (set state p c) next more (p + 1)
   warped-next {state = state} {moved = moved} {p = p} {c = c} w h l e m f =
       record {
@@ -138,7 +140,8 @@ module _ (b : Block) where
       }
 
   -- all points are done
-  pub warped-whole : {n long : ℕ} {state : List ℕ} {q : Site} {moved p : ℕ} → Warped b n long state q moved p → n ≤ p → n ≡ long → n ≡ points (b .sizes)
+  pub warped-whole : {n long : ℕ} {state : List ℕ} {q : Site} {moved p : ℕ} → Warped b n long state q moved p
+      → n ≤ p → n ≡ long → n ≡ points (b .sizes)
       → (state ≡ stateOf b) × (moved ≡ movedCount (stateOf b))
   warped-whole {n} {state = state} {p = p} w h l e = (
     sym (take-all p state (omega (arith, w .same-length))) ∙ w .done ∙ ap (codes b) whole,

@@ -1,4 +1,5 @@
 // Which points move, and by which code.
+use crate::bytes;
 use crate::violation;
 use crate::walk;
 use lattice::Near;
@@ -8,9 +9,9 @@ use lattice::counts;
 use lattice::edges;
 use lattice::numbers;
 ghost use mathlib.Core.Path.{_≡_};
-ghost use Prim.Native.Nat.{_<_};
+ghost use mathlib.Core.Bool.{true};
 ghost use mathlib.Core.List.{List};
-ghost use Prim.Native.Nat.{ℕ};
+ghost use Prim.Native.Nat.{ℕ, _<_};
 ghost use lib.ListN.{length};
 ghost use Rattle.lattice.specs.declared.Sizes.{Sizes};
 ghost use Rattle.lattice.specs.declared.Near.the-variants.{At};
@@ -21,6 +22,7 @@ ghost use Rattle.moving.specs.Block.{blockOf, Tabled};
 ghost use Rattle.moving.specs.Label.{isZero};
 ghost use Rattle.moving.specs.Moving.{labelAfter, violatedAlong, violatedBy, stateOf};
 ghost use Rattle.filling.specs.Fill.{movedCount};
+ghost use Rattle.warp.specs.Quick.{Idle};
 
 // A point's label is zero: its sample is, or it is among the points done and has moved. Sizes and
 // cuts do not enter.
@@ -63,7 +65,14 @@ fn is_violated_along(
 }
 
 // The edge by a code exists, its cut is live and violates the point.
-fn is_violated(s: Sizes, samples: &[i16], cuts: &[u8], done: &[u8], q: Site, code: usize) -> bool
+fn is_violated_far(
+    s: Sizes,
+    samples: &[i16],
+    cuts: &[u8],
+    done: &[u8],
+    q: Site,
+    code: usize,
+) -> bool
     requires { ⌜ Tabled (blockOf s (now samples) (now cuts)) ⌝ }
     requires { ⌜ Code code ⌝ }
     requires { ⌜ Sited s q ⌝ }
@@ -74,6 +83,37 @@ fn is_violated(s: Sizes, samples: &[i16], cuts: &[u8], done: &[u8], q: Site, cod
         Near::Nothing => false,
         Near::At(e) => is_violated_along(s, samples, cuts, done, q.own, code, e),
     }
+}
+
+// The same, asking first whether the byte violates at all: then few neighbours are looked up.
+fn is_violated(s: Sizes, samples: &[i16], cuts: &[u8], done: &[u8], q: Site, code: usize) -> bool
+    requires { ⌜ Tabled (blockOf s (now samples) (now cuts)) ⌝ }
+    requires { ⌜ Code code ⌝ }
+    requires { ⌜ Sited s q ⌝ }
+    ensures { λ r. ⌜ r ≡ violatedBy (blockOf s (now (samples .entry)) (now (cuts .entry))) (now (done .entry)) (q .own) code ⌝ }
+{
+    let t = bytes::cut_by(s, cuts, q, code);
+    if violation::violates(code, t) {
+        return is_violated_far(s, samples, cuts, done, q, code);
+    }
+    false
+}
+
+// Nothing has to be searched: the sample is zero, or no cut stands on any of the fourteen edges.
+fn is_idle(s: Sizes, samples: &[i16], cuts: &[u8], q: Site) -> bool
+    requires { ⌜ Tabled (blockOf s (now samples) (now cuts)) ⌝ }
+    requires { ⌜ Sited s q ⌝ }
+    ensures { λ r. ⌜ (r ≡ true → Idle (blockOf s (now (samples .entry)) (now (cuts .entry))) (q .own)) ⌝ }
+{
+    let p = q.own;
+    if samples[p] == 0 {
+        return true;
+    }
+    let at = 7 * p;
+    if bytes::starts_no_cut(&cuts[at..at + 7]) {
+        return bytes::ends_no_cut(s, cuts, q);
+    }
+    false
 }
 
 // Points are taken once each, in ascending number; the search of a point sees the codes of those
@@ -89,6 +129,9 @@ pub fn warp(s: Sizes, samples: &[i16], cuts: &[u8], state: &mut [u8]) -> usize
     let mut moved: usize = 0;
     for p in 0..n {
         let mut code: u8 = 1;
+        if is_idle(s, samples, cuts, q) {
+            code = 15;
+        }
         let found = 'search: loop {
             if 14 < code {
                 break 'search 0;

@@ -51,7 +51,7 @@ crossings-requires : tie.Need-crossings-requires Inv-loop μ-loop
 crossings-requires c κs =
     let a = c .before .before .before .before .before .before in
     let w = c .before .before .loop .inv .1 (c .before .loop-test .taken) in
-    (a .pre .sized, (a .pre .samples-long, (own-site w, own-below w)))
+    record { sized = a .pre .sized; long = a .pre .samples-long; is = own-site w; below = own-below w }
 
 point-fault-requires : tie.Need-point-fault-requires Inv-loop μ-loop
 point-fault-requires c κs = simp (length-take, length-drop) (omega arith)

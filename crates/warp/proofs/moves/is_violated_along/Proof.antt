@@ -25,7 +25,15 @@ edge-byte-requires : tie.Need-edge-byte-requires
 edge-byte-requires c κs = let a = c .before .before .before .before .before .before in (omega (arith, points-small (a .args .s) (a .pre .0 .sized)), a .pre .1 .0)
 
 shared-slice-read-violates : tie.Need-shared-slice-read-violates
-shared-slice-read-violates c = let a = c .before .before .before .before .before .before .before .before in omega (arith, a .pre .0 .cuts-long, c .before .edge-byte .ensures, byte-lt _ (a .args .p) (a .args .code) (a .args .q) (a .pre .1 .0) (a .pre .1 .1 .0) (a .pre .1 .1 .1))
+shared-slice-read-violates c =
+    let a = c .before .before .before .before .before .before .before .before in
+    let h = a .pre .1 .1 in
+    omega (
+      arith,
+      a .pre .0 .cuts-long,
+      c .before .edge-byte .ensures,
+      byte-lt _ (a .args .p) (a .args .code) (a .args .q) (a .pre .1 .0) (h .0) (h .1),
+    )
 
 violates-requires : tie.Need-violates-requires
 violates-requires c κs = search needs

@@ -18,7 +18,8 @@ add-if1 c =
 add-if1-2 : tie.Need-add-if1-2
 add-if1-2 c =
     let a = c .before .before in
-    omega (arith, site-small (a .args .s) (a .args .q) (a .pre .0) (a .pre .1 .0), odd-small (a .args .q .kind), c .before .odd-of .ensures)
+    let o = c .before .odd-of .ensures in
+    omega (arith, site-small (a .args .s) (a .args .q) (a .pre .0) (a .pre .1 .0), odd-small (a .args .q .kind))
 
 add-t8 : tie.Need-add-t8
 add-t8 c = search needs
@@ -36,7 +37,8 @@ add-t10 c =
 returns : tie.Need-returns
 returns c =
     let a = c .before .before .before .before .before .before .before in
-    next-along (a .args .s) (a .args .q) (a .pre .1 .0) (goes-on (a .args .q .kind) _ _ _ (c .before .before .before .before .before .before .odd-of .ensures) (c .before .before .before .if1 .taken))
+    let o = c .before .before .before .before .before .before .odd-of .ensures in
+    next-along (a .args .s) (a .args .q) (a .pre .1 .0) (goes-on (a .args .q .kind) _ _ _ o (c .before .before .before .if1 .taken))
 
 add-if2 : tie.Need-add-if2
 add-if2 c =
@@ -46,7 +48,8 @@ add-if2 c =
 add-if2-2 : tie.Need-add-if2-2
 add-if2-2 c =
     let a = c .before .before .before .before .before in
-    omega (arith, site-small (a .args .s) (a .args .q) (a .pre .0) (a .pre .1 .0), odd-small (a .args .q .kind), c .before .before .before .before .odd-of .ensures)
+    let o = c .before .before .before .before .odd-of .ensures in
+    omega (arith, site-small (a .args .s) (a .args .q) (a .pre .0) (a .pre .1 .0), odd-small (a .args .q .kind))
 
 add-site-at : tie.Need-add-site-at
 add-site-at c = search needs
@@ -59,9 +62,10 @@ site-at-requires c κs =
 returns-2 : tie.Need-returns-2
 returns-2 c =
     let a = c .before .before .before .before .before .before .before .before .before in
+    let o = c .before .before .before .before .before .before .before .before .odd-of .ensures in
     c .site-at .ensures
-    ∙ next-up (a .args .s) (a .args .q) (a .pre .1 .0) (at-end (a .args .q .kind) _ _ _ (c .before .before .before .before .before .before .before .before .odd-of .ensures) (c .before .before .before .before .before .if1 .left) (a .pre .1 .0 .x-in))
-    (goes-on (a .args .q .kind) _ _ _ (c .before .before .before .before .before .before .before .before .odd-of .ensures) (c .before .before .if2 .taken))
+    ∙ next-up (a .args .s) (a .args .q) (a .pre .1 .0) (at-end (a .args .q .kind) _ _ _ o (c .before .before .before .before .before .if1 .left) (a .pre .1 .0 .x-in))
+    (goes-on (a .args .q .kind) _ _ _ o (c .before .before .if2 .taken))
 
 add-if3 : tie.Need-add-if3
 add-if3 c =
@@ -71,7 +75,8 @@ add-if3 c =
 add-if3-2 : tie.Need-add-if3-2
 add-if3-2 c =
     let a = c .before .before .before .before .before .before .before .before in
-    omega (arith, site-small (a .args .s) (a .args .q) (a .pre .0) (a .pre .1 .0), odd-small (a .args .q .kind), c .before .before .before .before .before .before .before .odd-of .ensures)
+    let o = c .before .before .before .before .before .before .before .odd-of .ensures in
+    omega (arith, site-small (a .args .s) (a .args .q) (a .pre .0) (a .pre .1 .0), odd-small (a .args .q .kind))
 
 add-site-at-2 : tie.Need-add-site-at-2
 add-site-at-2 c = search needs
@@ -82,10 +87,12 @@ site-at-requires-2 c κs = search needs
 returns-3 : tie.Need-returns-3
 returns-3 c =
     let a = c .before .before .before .before .before .before .before .before .before .before .before .before in
+    let o = c .before .before .before .before .before .before .before .before .before .before .before .odd-of .ensures in
+    let d = c .before .before .before .before .before in
     c .site-at2 .ensures
-    ∙ next-layer-up (a .args .s) (a .args .q) (a .pre .1 .0) (at-end (a .args .q .kind) _ _ _ (c .before .before .before .before .before .before .before .before .before .before .before .odd-of .ensures) (c .before .before .before .before .before .before .before .before .if1 .left) (a .pre .1 .0 .x-in))
-    (at-end (a .args .q .kind) _ _ _ (c .before .before .before .before .before .before .before .before .before .before .before .odd-of .ensures) (c .before .before .before .before .before .if2 .left) (a .pre .1 .0 .y-in))
-    (goes-on (a .args .q .kind) _ _ _ (c .before .before .before .before .before .before .before .before .before .before .before .odd-of .ensures) (c .before .before .if3 .taken))
+    ∙ next-layer-up (a .args .s) (a .args .q) (a .pre .1 .0) (at-end (a .args .q .kind) _ _ _ o (d .before .before .before .if1 .left) (a .pre .1 .0 .x-in))
+    (at-end (a .args .q .kind) _ _ _ o (d .if2 .left) (a .pre .1 .0 .y-in))
+    (goes-on (a .args .q .kind) _ _ _ o (c .before .before .if3 .taken))
 
 site-at-requires-3 : tie.Need-site-at-requires-3
 site-at-requires-3 c κs = search needs
@@ -93,10 +100,12 @@ site-at-requires-3 c κs = search needs
 returns-4 : tie.Need-returns-4
 returns-4 c =
     let a = c .before .before .before .before .before .before .before .before .before .before .before in
+    let o = c .before .before .before .before .before .before .before .before .before .before .odd-of .ensures in
+    let d = c .before .before .before .before in
     c .site-at3 .ensures
-    ∙ next-kind (a .args .s) (a .args .q) (a .pre .1 .0) (at-end (a .args .q .kind) _ _ _ (c .before .before .before .before .before .before .before .before .before .before .odd-of .ensures) (c .before .before .before .before .before .before .before .if1 .left) (a .pre .1 .0 .x-in))
-    (at-end (a .args .q .kind) _ _ _ (c .before .before .before .before .before .before .before .before .before .before .odd-of .ensures) (c .before .before .before .before .if2 .left) (a .pre .1 .0 .y-in))
-    (a .pre .0) (at-end (a .args .q .kind) _ _ _ (c .before .before .before .before .before .before .before .before .before .before .odd-of .ensures) (c .before .if3 .left) (a .pre .1 .0 .z-in)) (a .pre .1 .1)
+    ∙ next-kind (a .args .s) (a .args .q) (a .pre .1 .0) (at-end (a .args .q .kind) _ _ _ o (d .before .before .before .if1 .left) (a .pre .1 .0 .x-in))
+    (at-end (a .args .q .kind) _ _ _ o (d .if2 .left) (a .pre .1 .0 .y-in)) (a .pre .0)
+    (at-end (a .args .q .kind) _ _ _ o (c .before .if3 .left) (a .pre .1 .0 .z-in)) (a .pre .1 .1)
 
 pub next-site-spec : {M : Type 1} → statement M
 next-site-spec =
