@@ -15,6 +15,7 @@ use Rattle.lattice.specs.declared.Near.{Near}
 use Rattle.lattice.specs.declared.Near.the-variants.{At, Nothing}
 use Rattle.lattice.specs.Counts.{points}
 use Rattle.lattice.specs.Edge.{neighbour, byteAt, edgeByte}
+use Rattle.lattice.proofs.Sized.{sized-fits}
 use Rattle.moving.specs.Block.{Block, cutByte}
 use Rattle.moving.specs.Violation.{violates}
 use Rattle.moving.specs.Moving.{live, violatedAlong, choice, codes, stateOf}
@@ -23,7 +24,7 @@ use Rattle.stencil.specs.Id.{cutId}
 use Rattle.geometry.specs.Place.{placeOf}
 use Rattle.filling.specs.declared.Placed.{Placed}
 use Rattle.filling.specs.Located.{reaches, believable, standsTo, stands, placed, idFault, locate}
-use Rattle.filling.proofs.Accepted.{Accepted, sized-fit}
+use Rattle.filling.proofs.Accepted.{Accepted}
 
 -- what the place call answers after filling, and where the rows' corner with an id stands
 abbrev pub answerTo : Block → ℕ → Placed
@@ -59,7 +60,7 @@ module _ (b : Block) where
     faultless : (id : ℕ) → idFault (b .sizes) (b .cuts) (stateOf b) id ≡ 0 → answerTo b id ≡ standsAt b id
     unfolding locate
     faultless id e =
-        rw (sized-fit (b .sizes) (h .sized), eq-eqb _ _ (h .cuts-long), eq-eqb _ _ (codes-length b (points (b .sizes))), eq-eqb _ _ e) refl
+        rw (sized-fits (b .sizes) (h .tabled .sized), eq-eqb _ _ (h .tabled .cuts-long), eq-eqb _ _ (codes-length b (points (b .sizes))), eq-eqb _ _ e) refl
 
     pub point-agrees : (p : ℕ) → p < points (b .sizes) → answerTo b p ≡ standsAt b p
     unfolding idFault
