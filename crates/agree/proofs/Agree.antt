@@ -15,6 +15,7 @@ use Rattle.lattice.specs.declared.Near.{Near}
 use Rattle.lattice.specs.declared.Near.the-variants.{At, Nothing}
 use Rattle.lattice.specs.Counts.{points}
 use Rattle.lattice.specs.Edge.{neighbour, byteAt, edgeByte}
+use Rattle.lattice.proofs.Sized.{sized-fits}
 use Rattle.moving.specs.Block.{Block, cutByte}
 use Rattle.moving.specs.Violation.{violates}
 use Rattle.moving.specs.Moving.{live, violatedAlong, choice, codes, stateOf}
@@ -23,7 +24,7 @@ use Rattle.stencil.specs.Id.{cutId}
 use Rattle.geometry.specs.Place.{placeOf}
 use Rattle.filling.specs.declared.Placed.{Placed}
 use Rattle.filling.specs.Located.{reaches, believable, standsTo, stands, placed, idFault, locate}
-use Rattle.filling.proofs.Accepted.{Accepted, sized-fit}
+use Rattle.filling.proofs.Accepted.{Accepted}
 
 -- what the place call answers after filling, and where the rows' corner with an id stands
 abbrev pub answerTo : Block → ℕ → Placed
@@ -47,7 +48,8 @@ module _ (b : Block) where
       code : ℕ
       code = choice b (codes b p) p
 
-      go : Dec (code ≡ 0) → (if eqb code 0 then true else leb code 14 && reaches (b .sizes) (b .cuts) (stateOf b) p code (neighbour (b .sizes) p code)) ≡ true
+      go : Dec (code ≡ 0)
+          → (if eqb code 0 then true else leb code 14 && reaches (b .sizes) (b .cuts) (stateOf b) p code (neighbour (b .sizes) p code)) ≡ true
       go (yes e) = rw (eq-eqb code 0 e) refl
       go (no n) =
           let v = choice-violates b (codes b p) p n in
@@ -58,7 +60,7 @@ module _ (b : Block) where
     faultless : (id : ℕ) → idFault (b .sizes) (b .cuts) (stateOf b) id ≡ 0 → answerTo b id ≡ standsAt b id
     unfolding locate
     faultless id e =
-        rw (sized-fit (b .sizes) (h .sized), eq-eqb _ _ (h .cuts-long), eq-eqb _ _ (codes-length b (points (b .sizes))), eq-eqb _ _ e) refl
+        rw (sized-fits (b .sizes) (h .tabled .sized), eq-eqb _ _ (h .tabled .cuts-long), eq-eqb _ _ (codes-length b (points (b .sizes))), eq-eqb _ _ e) refl
 
     pub point-agrees : (p : ℕ) → p < points (b .sizes) → answerTo b p ≡ standsAt b p
     unfolding idFault
@@ -69,11 +71,14 @@ module _ (b : Block) where
         → getD (stateOf b) p 0 ≡ 0 → getD (stateOf b) q 0 ≡ 0 → answerTo b (cutId (b .sizes) p d) ≡ standsAt b (cutId (b .sizes) p d)
     unfolding idFault stands standsTo
     cut-agrees p d q l u e n x y =
-        faultless (cutId (b .sizes) p d)
-        (rw (le-ltb (cutId (b .sizes) p d) (points (b .sizes)) (omega arith), lt-leb (8 * points (b .sizes)) (cutId (b .sizes) p d) (omega arith), start, way, e, ne-eqb _ _ n, eq-eqb _ _ x, eq-eqb _ _ y) refl)
+        faultless id
+        (rw (le-ltb id (points (b .sizes)) (omega arith), lt-leb (8 * points (b .sizes)) id (omega arith), start, way, e, ne-eqb _ _ n, eq-eqb _ _ x, eq-eqb _ _ y) refl)
       where
-        start : (cutId (b .sizes) p d - points (b .sizes)) / 7 ≡ p
+        id : ℕ
+        id = cutId (b .sizes) p d
+
+        start : (id - points (b .sizes)) / 7 ≡ p
         start = omega arith
 
-        way : (cutId (b .sizes) p d - points (b .sizes)) % 7 ≡ d
+        way : (id - points (b .sizes)) % 7 ≡ d
         way = omega arith

@@ -75,8 +75,8 @@ module _ (b : Block) (h : Accepted b) where
   final = labelAfter b (stateOf b)
 
   -- an edge between two labels that are opposed after moving has a byte
-  cut-byte : (p d q : ℕ) → p < points (b .sizes) → d < 7 → neighbour (b .sizes) p (d + 1) ≡ At q → T (opposed (labelBefore b p) (labelBefore b q))
-      → cutByte b (byteAt p d) ≡ 0 → ⊥
+  cut-byte : (p d q : ℕ) → p < points (b .sizes) → d < 7 → neighbour (b .sizes) p (d + 1) ≡ At q
+      → T (opposed (labelBefore b p) (labelBefore b q)) → cutByte b (byteAt p d) ≡ 0 → ⊥
   unfolding cutFault crossesTo
   cut-byte p d q l u e t z = omega (arith, gap, h .cuts-fine (byteAt p d) (omega arith))
     where
@@ -112,8 +112,8 @@ module _ (b : Block) (h : Accepted b) where
     unfolding cornerNumber
     joined u v l =
         near-number (b .sizes) (kind u) (corner t u) (corner-inside (b .sizes) t valid u) (codeIn t u v)
-        ∙ leads-near (b .sizes) (kind u) (corner t u) (codeIn t u v) (kind v) (corner t v) (corner-inside (b .sizes) t valid u) (corner-inside (b .sizes) t valid v)
-        (between-code t u v l) (between-leads t u v l)
+        ∙ leads-near (b .sizes) (kind u) (corner t u) (codeIn t u v) (kind v) (corner t v) (corner-inside (b .sizes) t valid u)
+        (corner-inside (b .sizes) t valid v) (between-code t u v l) (between-leads t u v l)
 
     cut-corner : (u v : Vertex) → rank u < rank v → T (opposed (final (at u)) (final (at v)))
         → answerTo b (cutId (b .sizes) (at (startOf (codeIn t u v) u v)) (directionOf (codeIn t u v)))
@@ -127,16 +127,19 @@ module _ (b : Block) (h : Accepted b) where
         g = between-code t u v l
 
         go : (z : Bool) → isStart c ≡ z
-            → answerTo b (cutId (b .sizes) (at (if z then u else v)) (directionOf c)) ≡ standsAt b (cutId (b .sizes) (at (if z then u else v)) (directionOf c))
+            → answerTo b (cutId (b .sizes) (at (if z then u else v)) (directionOf c))
+            ≡ standsAt b (cutId (b .sizes) (at (if z then u else v)) (directionOf c))
         go true e =
             edge-agrees (at u) (directionOf c) (at v) (at-lt u) (direction-lt c g)
             (ap (λ (n : ℕ). neighbour (b .sizes) (at u) n) (sym (start-code c g e)) ∙ joined u v l) o
         go false e =
             edge-agrees (at v) (directionOf c) (at u) (at-lt v) (direction-lt c g)
-            (ap (λ (n : ℕ). neighbour (b .sizes) (at v) n) (sym (end-code c g e)) ∙ neighbour-back (b .sizes) (at u) c (at v) (at-lt u) g (joined u v l))
+            (ap (λ (n : ℕ). neighbour (b .sizes) (at v) n) (sym (end-code c g e))
+            ∙ neighbour-back (b .sizes) (at u) c (at v) (at-lt u) g (joined u v l))
             (opposed-both _ _ o .0)
 
-    entry-agrees : (x : Entry Vertex) → T (stands (labelsIn b (stateOf b) t) x) → answerTo b (idOf (b .sizes) t x) ≡ standsAt b (idOf (b .sizes) t x)
+    entry-agrees : (x : Entry Vertex) → T (stands (labelsIn b (stateOf b) t) x)
+        → answerTo b (idOf (b .sizes) t x) ≡ standsAt b (idOf (b .sizes) t x)
     unfolding stands idOf
     entry-agrees (between u v) s =
         elim (or-cases (same u v) (ltb (rank u) (rank v) & opposed (final (at u)) (final (at v))) s) [
@@ -173,9 +176,13 @@ map-row-at f (row a b c d) v3 = refl
 pub row-agrees : (b : Block) → Accepted b → (r : Row ℕ) → Member r (meshOf b) → (v : Vertex) → answerTo b (rowAt r v) ≡ standsAt b (rowAt r v)
 unfolding rowsWith rowsIn
 row-agrees b h r m v =
+    let place = placeOf (b .sizes) (b .cuts) (stateOf b) in
     let (t, listed, inside) = gather-part (rowsIn b (stateOf b)) (tetrahedraOf (b .sizes)) m in
-    let (x, mx, ex) = mapped (oriented (placeOf (b .sizes) (b .cuts) (stateOf b))) _ inside in
-    let (y, my, ey) = mapped (mapRow (idOf (b .sizes) t)) (rowsFor (labelsIn b (stateOf b) t)) mx in
-    let (w, ew) = oriented-at (placeOf (b .sizes) (b .cuts) (stateOf b)) x v in
-    let is : rowAt r v ≡ idOf (b .sizes) t (rowAt y w) = ap (λ (z : Row ℕ). rowAt z v) ex ∙ ew ∙ ap (λ (z : Row ℕ). rowAt z w) ey ∙ map-row-at (idOf (b .sizes) t) y w in
-    rw is (entry-agrees b h t (listed-valid (b .sizes) t listed) (rowAt y w) (built-stands (labelsIn b (stateOf b) t) y (every-use (built (labelsIn b (stateOf b) t)) _ (rows-built (labelsIn b (stateOf b) t)) my) w))
+    let labels = labelsIn b (stateOf b) t in
+    let ids = idOf (b .sizes) t in
+    let (x, mx, ex) = mapped (oriented place) _ inside in
+    let (y, my, ey) = mapped (mapRow ids) (rowsFor labels) mx in
+    let (w, ew) = oriented-at place x v in
+    let is = ap (λ (z : Row ℕ). rowAt z v) ex ∙ ew ∙ ap (λ (z : Row ℕ). rowAt z w) ey ∙ map-row-at ids y w in
+    let stand = built-stands labels y (every-use (built labels) (rowsFor labels) (rows-built labels) my) w in
+    rw is (entry-agrees b h t (listed-valid (b .sizes) t listed) (rowAt y w) stand)

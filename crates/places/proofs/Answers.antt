@@ -81,11 +81,12 @@ module _ (s : Sizes) (cuts : List ℕ) (p c : ℕ) where
     unfolding movedAnswer
     moved-far v = rw (e, rw byte at v) refl
 
-    pub moved-answer : p < points s → Code c → t ≤ 256 → violates c t ≡ true → (r : Place) → placeAt r ≡ along (rest s p) (step c) (measured c t)
-        → placedAt (placeAt r) ≡ movedAnswer s cuts p c (neighbour s p c)
+    pub moved-answer : p < points s → Code c → t ≤ 256 → violates c t ≡ true → (r : Place)
+        → placeAt r ≡ along (rest s p) (step c) (measured c t) → placedAt (placeAt r) ≡ movedAnswer s cuts p c (neighbour s p c)
     unfolding movedAnswer
     moved-answer h g l v r is =
-        rw (e, rw byte at v) (ap placedAt (is ∙ ap (λ (n : ℕ). along (rest s p) (step c) (measured c n)) byte ∙ sym (moved-along s cuts p c q h g e (rw byte at l))))
+        rw (e, rw byte at v)
+        (ap placedAt (is ∙ ap (λ (n : ℕ). along (rest s p) (step c) (measured c n)) byte ∙ sym (moved-along s cuts p c q h g e (rw byte at l))))
 
 -- a point
 module _ (s : Sizes) (cuts state : List ℕ) (p : ℕ) where
@@ -97,7 +98,8 @@ module _ (s : Sizes) (cuts state : List ℕ) (p : ℕ) where
   unfolding pointAnswer believable
   point-strange l = rw (ne-eqb (getD state p 0) 0 (λ z. omega arith), lt-leb _ _ l) refl
 
-  pub point-moved : (c : ℕ) → c ≡ getD state p 0 → (c ≡ 0 → ⊥) → c ≤ 14 → movedAnswer s cuts p c (neighbour s p c) ≡ pointAnswer s cuts state p
+  pub point-moved : (c : ℕ) → c ≡ getD state p 0 → (c ≡ 0 → ⊥) → c ≤ 14
+      → movedAnswer s cuts p c (neighbour s p c) ≡ pointAnswer s cuts state p
   unfolding pointAnswer believable pointPlace movedAnswer reaches
   point-moved c e n l = rw (sym e, ne-eqb c 0 n, le-leb c 14 l) (go (neighbour s p c))
     where
@@ -167,7 +169,8 @@ module _ (s : Sizes) (cuts state : List ℕ) (id : ℕ) where
       call-state n = rw (f, eq-eqb _ _ lc, ne-eqb _ _ n) refl
 
       module _ (ls : length state ≡ points s) where
-        called : locate s cuts state id ≡ (if eqb (idFault s cuts state id) 0 then placedAt (placeOf s cuts state id) else refusedWith (idFault s cuts state id))
+        called : locate s cuts state id
+            ≡ (if eqb (idFault s cuts state id) 0 then placedAt (placeOf s cuts state id) else refusedWith (idFault s cuts state id))
         unfolding locate
         called = rw (f, eq-eqb _ _ lc, eq-eqb _ _ ls) refl
 
@@ -187,7 +190,8 @@ module _ (s : Sizes) (cuts state : List ℕ) (id : ℕ) where
             at : Axis → ℤ
             at = cutPlace s cuts ((id - points s) / 7) ((id - points s) % 7)
 
-            go : (z : Bool) → (if z then placedAt at else refusedWith 8) ≡ (if eqb (if z then 0 else 8) 0 then placedAt at else refusedWith (if z then 0 else 8))
+            go : (z : Bool) → (if z then placedAt at else refusedWith 8)
+                ≡ (if eqb (if z then 0 else 8) 0 then placedAt at else refusedWith (if z then 0 else 8))
             go true = refl
             go false = refl
 

@@ -54,12 +54,17 @@ module _ (s : Sizes) (cuts : List ℕ) (p c q : ℕ) (h : p < points s) (g : Cod
       way : Axis → Step
       way = direction (directionOf c)
 
+      at : Bool → ℕ
+      at z = if z then p else q
+
+      t : Bool → ℕ
+      t z = getD cuts (byteAt (at z) (directionOf c)) 0
+
       go : (z : Bool) → isStart c ≡ z → (a : Axis)
-          → rest s (if z then p else q) a +ℤ pos (getD cuts (byteAt (if z then p else q) (directionOf c)) 0) *ℤ signed (way a)
-          ≡ rest s p a +ℤ pos (if z then getD cuts (byteAt (if z then p else q) (directionOf c)) 0 else 256 - getD cuts (byteAt (if z then p else q) (directionOf c)) 0)
-          *ℤ signed (if z then way a else reversed (way a))
+          → rest s (at z) a +ℤ pos (t z) *ℤ signed (way a)
+          ≡ rest s p a +ℤ pos (if z then t z else 256 - t z) *ℤ signed (if z then way a else reversed (way a))
       go true d a = refl
       go false d a =
-          ap (λ (f : Place). f a +ℤ pos (getD cuts (byteAt q (directionOf c)) 0) *ℤ signed (way a)) (ap (rest s) (end .is) ∙ rest-number s (end .kind) (end .index) (end .inside))
-          ∙ from-end (doubled (kindOf s p) (indexOf s p a)) (doubled (end .kind) (end .index a)) (way a .up) (way a .down) (getD cuts (byteAt q (directionOf c)) 0)
+          ap (λ (f : Place). f a +ℤ pos (t false) *ℤ signed (way a)) (ap (rest s) (end .is) ∙ rest-number s (end .kind) (end .index) (end .inside))
+          ∙ from-end (doubled (kindOf s p) (indexOf s p a)) (doubled (end .kind) (end .index a)) (way a .up) (way a .down) (t false)
           (rw d at small) (rw d at (end .leads a))

@@ -25,7 +25,8 @@ module _ {v w : Place} (h : InBox differenceBox v) (g : InBox differenceBox w) w
   product a b = mul-is (at h tt a) (at g tt b) tt
 
   pub minor : (a b : Axis)
-      → Is crossBox (back (back (back (placeAt v a) *ℤ back (placeAt w b)) -ℤ back (back (placeAt v b) *ℤ back (placeAt w a)))) (placeAt v a *ℤ placeAt w b -ℤ placeAt v b *ℤ placeAt w a)
+      → Is crossBox (back (back (back (placeAt v a) *ℤ back (placeAt w b)) -ℤ back (back (placeAt v b) *ℤ back (placeAt w a))))
+      (placeAt v a *ℤ placeAt w b -ℤ placeAt v b *ℤ placeAt w a)
   minor a b = sub-is (product a b) (product b a) tt
 
 -- a product with a coordinate of a cross product

@@ -56,7 +56,8 @@ shared-slice-read-if3 : tie.Need-shared-slice-read-if3
 shared-slice-read-if3 c =
     let a = c .before .before .before .before .before .before .before .before .before .before .before .before in
     let lo = c .before .before .before .before .before .locate .ensures in
-    let to = site-leads (a .args .s) (a .args .o / 7) _ lo (a .args .o % 7 + 1) (c .before .before .before .before .neighbour .ensures) (c .before .before .far .given .1) in
+    let found = c .before .before .before .before .neighbour .ensures in
+    let to = site-leads (a .args .s) (a .args .o / 7) _ lo (a .args .o % 7 + 1) found (c .before .before .far .given .1) in
     omega (arith, a .pre .1 .1 .0, neighbour-lt (a .args .s) (a .args .o / 7) (a .args .o % 7 + 1) _ (omega arith) (start-code (a .args .o % 7) (omega arith)) to)
 
 refused-requires-3 : tie.Need-refused-requires-3
@@ -66,8 +67,11 @@ returns-3 : tie.Need-returns-3
 returns-3 c =
     let a = c .before .before .before .before .before .before .before .before .before .before .before .before .before .before in
     let lo = c .before .before .before .before .before .before .before .locate .ensures in
-    let to = site-leads (a .args .s) (a .args .o / 7) _ lo (a .args .o % 7 + 1) (c .before .before .before .before .before .before .neighbour .ensures) (c .before .before .before .before .far .given .1) in
-    c .refused3 .ensures ∙ cut-ends (a .args .s) (a .args .cuts .now) (a .args .state .now) (a .args .o) _ to (c .before .before .before .before .before .before .before .before .before .before .if1 .left) (c .before .before .before .before .before .before .before .before .if2 .left) (c .before .if3 .taken)
+    let found = c .before .before .before .before .before .before .neighbour .ensures in
+    let to = site-leads (a .args .s) (a .args .o / 7) _ lo (a .args .o % 7 + 1) found (c .before .before .before .before .far .given .1) in
+    let byte = c .before .before .before .before .before .before .before .before .before .before .if1 .left in
+    let still = c .before .before .before .before .before .before .before .before .if2 .left in
+    c .refused3 .ensures ∙ cut-ends (a .args .s) (a .args .cuts .now) (a .args .state .now) (a .args .o) _ to byte still (c .before .if3 .taken)
 
 rest-place-requires : tie.Need-rest-place-requires
 rest-place-requires c κs =
@@ -81,15 +85,14 @@ answered-requires : tie.Need-answered-requires
 answered-requires c κs =
     let a = c .before .before .before .before .before .before .before .before .before .before .before .before .before .before .before in
     let lo = c .before .before .before .before .before .before .before .before .locate .ensures in
-    let to = site-leads (a .args .s) (a .args .o / 7) _ lo (a .args .o % 7 + 1) (c .before .before .before .before .before .before .before .neighbour .ensures) (c .before .before .before .before .before .far .given .1) in
-    let is =
-    c .cut-place .ensures .0
-    ∙ ap (λ (f : Axis → ℤ). along f (direction (a .args .o % 7)) (getD (a .args .cuts .now) (a .args .o) 0))
-    (c .before .rest-place .ensures .0 ∙ site-rest (a .args .s) (a .args .o / 7) _ lo)
-    in (
+    let found = c .before .before .before .before .before .before .before .neighbour .ensures in
+    let to = site-leads (a .args .s) (a .args .o / 7) _ lo (a .args .o % 7 + 1) found (c .before .before .before .before .before .far .given .1) in
+    let rests = c .before .rest-place .ensures .0 ∙ site-rest (a .args .s) (a .args .o / 7) _ lo in
+    let is = c .cut-place .ensures .0 ∙ ap (λ (f : Axis → ℤ). along f (direction (a .args .o % 7)) (getD (a .args .cuts .now) (a .args .o) 0)) rests in
+    let known = c .before .before .before .before .before .before .before .before .before .before .before .before .shared-slice-known3 .given in (
       c .cut-place .ensures .1,
       along-up (a .args .s) (a .args .o / 7) (a .args .o % 7 + 1) _ _ (omega arith) (start-code (a .args .o % 7) (omega arith)) to
-          (omega (arith, c .before .before .before .before .before .before .before .before .before .before .before .before .shared-slice-known3 .given (a .args .o))) _ (is ∙ sym (start-along _ (a .args .o % 7) _ (omega arith))),
+          (omega (arith, known (a .args .o))) _ (is ∙ sym (start-along _ (a .args .o % 7) _ (omega arith))),
     )
 
 enum-told : tie.Need-enum-told
@@ -102,19 +105,20 @@ returns-4 : tie.Need-returns-4
 returns-4 c =
     let a = c .before .before .before .before .before .before .before .before .before .before .before .before .before .before .before .before in
     let lo = c .before .before .before .before .before .before .before .before .before .locate .ensures in
-    let to = site-leads (a .args .s) (a .args .o / 7) _ lo (a .args .o % 7 + 1) (c .before .before .before .before .before .before .before .before .neighbour .ensures) (c .before .before .before .before .before .before .far .given .1) in
-    let is =
-    c .before .cut-place .ensures .0
-    ∙ ap (λ (f : Axis → ℤ). along f (direction (a .args .o % 7)) (getD (a .args .cuts .now) (a .args .o) 0))
-    (c .before .before .rest-place .ensures .0 ∙ site-rest (a .args .s) (a .args .o / 7) _ lo)
-    in
-    c .answered .ensures ∙ cut-answer (a .args .s) (a .args .cuts .now) (a .args .state .now) (a .args .o) _ to (c .before .before .before .before .before .before .before .before .before .before .before .before .if1 .left) (c .before .before .before .before .before .before .before .before .before .before .if2 .left) (c .before .before .before .if3 .left) _ is
+    let found = c .before .before .before .before .before .before .before .before .neighbour .ensures in
+    let to = site-leads (a .args .s) (a .args .o / 7) _ lo (a .args .o % 7 + 1) found (c .before .before .before .before .before .before .far .given .1) in
+    let rests = c .before .before .rest-place .ensures .0 ∙ site-rest (a .args .s) (a .args .o / 7) _ lo in
+    let is = c .before .cut-place .ensures .0 ∙ ap (λ (f : Axis → ℤ). along f (direction (a .args .o % 7)) (getD (a .args .cuts .now) (a .args .o) 0)) rests in
+    let byte = c .before .before .before .before .before .before .before .before .before .before .before .before .if1 .left in
+    let still = c .before .before .before .before .before .before .before .before .before .before .if2 .left in
+    c .answered .ensures ∙ cut-answer (a .args .s) (a .args .cuts .now) (a .args .state .now) (a .args .o) _ to byte still (c .before .before .before .if3 .left) _ is
 
 returns-5 : tie.Need-returns-5
 returns-5 c =
     let a = c .before .before .before .before .before .before .before .before .before .before .before in
     let lo = c .before .before .before .before .locate .ensures in
-    let to = site-leads (a .args .s) (a .args .o / 7) _ lo (a .args .o % 7 + 1) (c .before .before .before .neighbour .ensures) (c .before .enum-told .given .1) in
+    let found = c .before .before .before .neighbour .ensures in
+    let to = site-leads (a .args .s) (a .args .o / 7) _ lo (a .args .o % 7 + 1) found (c .before .enum-told .given .1) in
     c .refused4 .ensures ∙ cut-none (a .args .s) (a .args .cuts .now) (a .args .state .now) (a .args .o) to
 
 pub locate-cut-spec : {M : Type 1} → statement M

@@ -38,16 +38,21 @@ enum-known-far c = search needs
 edge-byte-requires : tie.Need-edge-byte-requires
 edge-byte-requires c κs =
     let a = c .before .before .before .before .before .before .before in
-    let to = site-leads (a .args .s) (a .args .p) _ (c .before .before .before .before .before .locate .ensures) (a .args .code) (c .before .before .before .neighbour .ensures) (c .before .far .given .1) in
+    let found = c .before .before .before .neighbour .ensures in
+    let lo = c .before .before .before .before .before .locate .ensures in
+    let to = site-leads (a .args .s) (a .args .p) _ lo (a .args .code) found (c .before .far .given .1) in
     let n = points-small (a .args .s) (a .pre .0) in
     ((omega arith, omega (arith, neighbour-lt (a .args .s) (a .args .p) (a .args .code) _ (a .pre .1 .1 .0) (a .pre .1 .1 .1) to)), a .pre .1 .1 .1)
 
 shared-slice-read-t : tie.Need-shared-slice-read-t
 shared-slice-read-t c =
     let a = c .before .before .before .before .before .before .before .before .before in
-    let to = site-leads (a .args .s) (a .args .p) _ (c .before .before .before .before .before .before .before .locate .ensures) (a .args .code) (c .before .before .before .before .before .neighbour .ensures) (c .before .before .before .far .given .1) in
+    let found = c .before .before .before .before .before .neighbour .ensures in
+    let lo = c .before .before .before .before .before .before .before .locate .ensures in
+    let to = site-leads (a .args .s) (a .args .p) _ lo (a .args .code) found (c .before .before .before .far .given .1) in
     let far = neighbour-lt (a .args .s) (a .args .p) (a .args .code) _ (a .pre .1 .1 .0) (a .pre .1 .1 .1) to in
-    omega (arith, a .pre .1 .0, c .before .edge-byte .ensures, byte-lt (points (a .args .s)) (a .args .p) (a .args .code) _ (a .pre .1 .1 .1) (a .pre .1 .1 .0) far)
+    let byte = byte-lt (points (a .args .s)) (a .args .p) (a .args .code) _ (a .pre .1 .1 .1) (a .pre .1 .1 .0) far in
+    omega (arith, a .pre .1 .0, c .before .edge-byte .ensures)
 
 violates-requires : tie.Need-violates-requires
 violates-requires c κs = search needs
@@ -59,13 +64,12 @@ answered-requires : tie.Need-answered-requires
 answered-requires c κs =
     let a = c .before .before .before .before .before .before .before .before .before .before .before .before in
     let lo = c .before .before .before .before .before .before .before .before .before .before .locate .ensures in
-    let to = site-leads (a .args .s) (a .args .p) _ lo (a .args .code) (c .before .before .before .before .before .before .before .before .neighbour .ensures) (c .before .before .before .before .before .before .far .given .1) in
+    let found = c .before .before .before .before .before .before .before .before .neighbour .ensures in
+    let to = site-leads (a .args .s) (a .args .p) _ lo (a .args .code) found (c .before .before .before .before .before .before .far .given .1) in
     let at = c .before .before .before .before .edge-byte in
     let t = getD (a .args .cuts .now) (at .result) 0 in
-    let is =
-    c .moved-place .ensures .0
-    ∙ ap (λ (f : Axis → ℤ). along f (step (a .args .code)) (measured (a .args .code) t)) (c .before .before .before .before .before .before .before .before .before .rest-place .ensures .0 ∙ site-rest (a .args .s) (a .args .p) _ lo)
-    in
+    let rests = c .before .before .before .before .before .before .before .before .before .rest-place .ensures .0 ∙ site-rest (a .args .s) (a .args .p) _ lo in
+    let is = c .moved-place .ensures .0 ∙ ap (λ (f : Axis → ℤ). along f (step (a .args .code)) (measured (a .args .code) t)) rests in
     let small = measured-small (a .args .code) t (omega (arith, c .before .before .before .shared-slice-known2 .given (at .result))) in
     (c .moved-place .ensures .1, along-up (a .args .s) (a .args .p) (a .args .code) _ _ (a .pre .1 .1 .0) (a .pre .1 .1 .1) to small _ is)
 
@@ -73,16 +77,15 @@ returns : tie.Need-returns
 returns c =
     let a = c .before .before .before .before .before .before .before .before .before .before .before .before .before in
     let lo = c .before .before .before .before .before .before .before .before .before .before .before .locate .ensures in
-    let to = site-leads (a .args .s) (a .args .p) _ lo (a .args .code) (c .before .before .before .before .before .before .before .before .before .neighbour .ensures) (c .before .before .before .before .before .before .before .far .given .1) in
+    let found = c .before .before .before .before .before .before .before .before .before .neighbour .ensures in
+    let to = site-leads (a .args .s) (a .args .p) _ lo (a .args .code) found (c .before .before .before .before .before .before .before .far .given .1) in
     let at = c .before .before .before .before .before .edge-byte in
     let t = getD (a .args .cuts .now) (at .result) 0 in
-    let is =
-    c .before .moved-place .ensures .0
-    ∙ ap (λ (f : Axis → ℤ). along f (step (a .args .code)) (measured (a .args .code) t)) (c .before .before .before .before .before .before .before .before .before .before .rest-place .ensures .0 ∙ site-rest (a .args .s) (a .args .p) _ lo)
-    in
+    let rests = c .before .before .before .before .before .before .before .before .before .before .rest-place .ensures .0 ∙ site-rest (a .args .s) (a .args .p) _ lo in
+    let is = c .before .moved-place .ensures .0 ∙ ap (λ (f : Axis → ℤ). along f (step (a .args .code)) (measured (a .args .code) t)) rests in
     c .answered .ensures
-    ∙ moved-answer (a .args .s) (a .args .cuts .now) (a .args .p) (a .args .code) _ t to (ap (λ (o : ℕ). getD (a .args .cuts .now) o 0) (at .ensures))
-    (a .pre .1 .1 .0) (a .pre .1 .1 .1) (omega (arith, c .before .before .before .before .shared-slice-known2 .given (at .result)))
+    ∙ moved-answer (a .args .s) (a .args .cuts .now) (a .args .p) (a .args .code) _ t to
+    (ap (λ (o : ℕ). getD (a .args .cuts .now) o 0) (at .ensures)) (a .pre .1 .1 .0) (a .pre .1 .1 .1) (omega (arith, c .before .before .before .before .shared-slice-known2 .given (at .result)))
     (sym (c .before .before .before .violates .ensures) ∙ c .before .before .if1 .taken) _ is
 
 refused-requires : tie.Need-refused-requires
@@ -98,19 +101,21 @@ returns-2 : tie.Need-returns-2
 returns-2 c =
     let a = c .before .before .before .before .before .before .before .before .before .before .before .before in
     let lo = c .before .before .before .before .before .before .before .before .before .before .locate .ensures in
-    let to = site-leads (a .args .s) (a .args .p) _ lo (a .args .code) (c .before .before .before .before .before .before .before .before .neighbour .ensures) (c .before .before .before .before .before .before .far .given .1) in
+    let found = c .before .before .before .before .before .before .before .before .neighbour .ensures in
+    let to = site-leads (a .args .s) (a .args .p) _ lo (a .args .code) found (c .before .before .before .before .before .before .far .given .1) in
     let at = c .before .before .before .before .edge-byte in
     let t = getD (a .args .cuts .now) (at .result) 0 in
     c .refused .ensures
-    ∙ moved-far (a .args .s) (a .args .cuts .now) (a .args .p) (a .args .code) _ t to (ap (λ (o : ℕ). getD (a .args .cuts .now) o 0) (at .ensures))
+    ∙ moved-far (a .args .s) (a .args .cuts .now) (a .args .p) (a .args .code) _ t to
+    (ap (λ (o : ℕ). getD (a .args .cuts .now) o 0) (at .ensures))
     (sym (c .before .before .violates .ensures) ∙ c .before .if1 .left)
 
 returns-3 : tie.Need-returns-3
 returns-3 c =
     let a = c .before .before .before .before .before .before .before in
-    c .refused2 .ensures
-    ∙ moved-none (a .args .s) (a .args .cuts .now) (a .args .p) (a .args .code)
-    (site-leads (a .args .s) (a .args .p) _ (c .before .before .before .before .before .locate .ensures) (a .args .code) (c .before .before .before .neighbour .ensures) (c .before .enum-told .given .1))
+    let lo = c .before .before .before .before .before .locate .ensures in
+    let to = site-leads (a .args .s) (a .args .p) _ lo (a .args .code) (c .before .before .before .neighbour .ensures) (c .before .enum-told .given .1) in
+    c .refused2 .ensures ∙ moved-none (a .args .s) (a .args .cuts .now) (a .args .p) (a .args .code) to
 
 pub moved-point-spec : {M : Type 1} → statement M
 moved-point-spec =
