@@ -1,0 +1,2 @@
+pub mod CutTable
+pub mod CornerLaws
