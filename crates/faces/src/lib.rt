@@ -1,0 +1,1 @@
+// That the faces of all rows fit; no code.

@@ -1,0 +1,1 @@
+// The six-volumes of the rows of a filling; laws only.
