@@ -38,10 +38,10 @@ way-lt a e u v = go (ltb (rank u) (rank v))
     go false = omega arith
 
 -- what the code reads from its table is the cut
-pub cut-is : (t : Tetra) (u v p : ℕ) → Tetrahedral t → u < 4 → v < 4 → p ≡ cutEntry (t .axis) (t .edge) u v
-    → Edge (numberAt t (p / 8)) (p % 8) ≡ cutAt t u v
+pub cut-is : (t : Tetra) (u v x : ℕ) → Tetrahedral t → u < 4 → v < 4 → x ≡ numberAt t (cutEntry (t .axis) (t .edge) u v / 8)
+    → Edge x (cutEntry (t .axis) (t .edge) u v % 8) ≡ cutAt t u v
 unfolding cutAt
-cut-is t u v p k hu hv e = λ i. Edge (cornerOf t ((ap vertexAt start ∙ vertex-rank st) i)) (way i)
+cut-is t u v x k hu hv e = λ i. Edge ((e ∙ ap (cornerOf t) (ap vertexAt start ∙ vertex-rank st)) i) (way i)
   where
     st : Vertex
     st = startBetween (axisAt (t .axis)) (quarterAt (t .edge)) (vertexAt u) (vertexAt v)
@@ -49,14 +49,14 @@ cut-is t u v p k hu hv e = λ i. Edge (cornerOf t ((ap vertexAt start ∙ vertex
     dir : ℕ
     dir = wayBetween (axisAt (t .axis)) (quarterAt (t .edge)) (vertexAt u) (vertexAt v)
 
-    is : p ≡ 8 * rank st + dir
-    is = e ∙ cut-entry (t .axis) (t .edge) u v (k .axis-in) (k .edge-in) hu hv
+    is : cutEntry (t .axis) (t .edge) u v ≡ 8 * rank st + dir
+    is = cut-entry (t .axis) (t .edge) u v (k .axis-in) (k .edge-in) hu hv
 
     small : dir < 7
     small = way-lt (axisAt (t .axis)) (quarterAt (t .edge)) (vertexAt u) (vertexAt v)
 
-    start : p / 8 ≡ rank st
-    start = omega arith
+    start : cutEntry (t .axis) (t .edge) u v / 8 ≡ rank st
+    start = omega (arith, is, small)
 
-    way : p % 8 ≡ dir
-    way = omega arith
+    way : cutEntry (t .axis) (t .edge) u v % 8 ≡ dir
+    way = omega (arith, is, small)

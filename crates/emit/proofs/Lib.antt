@@ -1,2 +1,5 @@
 pub mod CutTable
 pub mod CornerLaws
+pub mod Written
+pub mod StencilLaws
+pub mod WeightLaws

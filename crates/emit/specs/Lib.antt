@@ -1,3 +1,5 @@
 pub mod Corners
 pub mod Picks
 pub mod Stencils
+pub mod Cubes
+pub mod Passes

@@ -6,7 +6,7 @@ ghost use mathlib.Core.Path.{_≡_};
 ghost use Prim.Native.Nat.{_+_, _<_, _≤_};
 ghost use lib.ListN.{length};
 ghost use lib.Seq.{sets};
-ghost use Rattle.emit.specs.Corners.{most, Known, KnownRow, cornerId, rowIds, turned, Tetrahedral, numberAt, pointAt, cutAt};
+ghost use Rattle.emit.specs.Corners.{most, Known, KnownRow, cornerId, rowIds, Tetrahedral, numberAt, pointAt, cutAt};
 
 // A line an axis and an edge of the turn, and in it 8 times the start and the direction of the cut
 // between two corners: four times four of them.
@@ -216,7 +216,7 @@ fn id(n: usize, c: Corner) -> u32
     }
 }
 
-fn put(rows: &mut [u32], at: usize, n: usize, r: Row)
+pub fn write_row(rows: &mut [u32], at: usize, n: usize, r: Row)
     requires { ⌜ n ≤ most ⌝ }
     requires { ⌜ KnownRow n r ⌝ }
     requires { ⌜ at + 4 ≤ length (now rows) ⌝ }
@@ -230,34 +230,6 @@ fn put(rows: &mut [u32], at: usize, n: usize, r: Row)
     rows[at + 1] = id(n, second);
     rows[at + 2] = id(n, third);
     rows[at + 3] = id(n, fourth);
-}
-
-// The row as it is, or with its last two corners exchanged.
-pub fn write_row(rows: &mut [u32], at: usize, n: usize, keep: bool, r: Row)
-    requires { ⌜ n ≤ most ⌝ }
-    requires { ⌜ KnownRow n r ⌝ }
-    requires { ⌜ at + 4 ≤ length (now rows) ⌝ }
-    ensures { λ _. ⌜ now (rows .exit) ≡ sets (now (rows .entry)) at (rowIds n (turned keep r)) ⌝ }
-{
-    if keep {
-        put(rows, at, n, r);
-        return;
-    }
-    let third = r.d;
-    let fourth = r.c;
-    let first = r.a;
-    let second = r.b;
-    put(
-        rows,
-        at,
-        n,
-        Row {
-            a: first,
-            b: second,
-            c: third,
-            d: fourth,
-        },
-    );
 }
 
 // The number of a corner.

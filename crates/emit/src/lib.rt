@@ -1,7 +1,12 @@
 // The rows of a block, counted and written.
 pub mod corners;
+pub mod cubes;
+pub mod passes;
 pub mod picks;
 pub mod stencils;
+pub mod writing;
+
+use lattice::Sizes;
 
 // A corner in a row: a lattice point, or the cut of the edge from a point in a direction.
 pub enum Corner {
@@ -15,6 +20,14 @@ pub struct Row {
     pub b: Corner,
     pub c: Corner,
     pub d: Corner,
+}
+
+// The rows of a tetrahedron.
+pub enum Rows {
+    None,
+    One(Row),
+    Two(Row, Row),
+    Three(Row, Row, Row),
 }
 
 // A lattice tetrahedron: its axis, its edge in the turn, and the numbers of its corners, ascending.
@@ -42,4 +55,37 @@ pub struct Order {
     pub second: usize,
     pub third: usize,
     pub fourth: usize,
+}
+
+// The six points that the tetrahedra between a cube and the next one along an axis have: the lower
+// and the higher centre, and the shared face's corners in their turn, (-,-), (+,-), (+,+), (-,+).
+pub struct Cube {
+    pub axis: usize,
+    pub low: usize,
+    pub high: usize,
+    pub mm: usize,
+    pub pm: usize,
+    pub pp: usize,
+    pub mp: usize,
+}
+
+// The weights of their labels.
+pub struct CubeWeights {
+    pub low: usize,
+    pub high: usize,
+    pub mm: usize,
+    pub pm: usize,
+    pub pp: usize,
+    pub mp: usize,
+}
+
+// All cubes with a next one along an axis: the block's sizes and points, the six points counted
+// from a cube's lowest corner and its centre, and how many such cubes there are along x, y and z.
+pub struct Pass {
+    pub sizes: Sizes,
+    pub n: usize,
+    pub step: Cube,
+    pub mx: usize,
+    pub my: usize,
+    pub mz: usize,
 }

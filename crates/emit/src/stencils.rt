@@ -1,33 +1,44 @@
 // The rows of a lattice tetrahedron, a line of document 01's table each: p1, p2.. are the plus
-// corners, m1.. the minus, z1.. the zero, in this order in o. The last two corners of a row change
-// places unless it winds as it should: an order winds as it does, or the other way round, by `keep`.
+// corners, m1.. the minus, z1.. the zero, in this order in o. If the order winds as it should, so do
+// the rows that bring in its corners in that order; the others wind the other way round.
 use crate::Order;
 use crate::Row;
+use crate::Rows;
 use crate::Tetra;
-use crate::Weights;
 use crate::corners;
-use crate::picks;
 ghost use mathlib.Core.Path.{_≡_};
-ghost use mathlib.Core.Bool.{Bool·beq};
-ghost use Prim.Native.Nat.{_+_, _*_, _<_, _≤_};
-ghost use lib.ListN.{length};
-ghost use lib.Seq.{sets};
-ghost use Rattle.stencil.specs.Stencil.{stencilOf, no-plus, plus-zero-only, +++-, ++--, ++-0, +---, +--0, +-00};
-ghost use Rattle.emit.specs.Stencils.{InOrder, rowCount, stencilIds, tetraIds, Room, rowsMost};
+ghost use Prim.Native.Nat.{_≤_};
+ghost use Rattle.stencil.specs.Stencil.{stencilOf, plus-zero-only, +++-, ++--, ++-0, +---, +--0, +-00};
+ghost use Rattle.emit.specs.Corners.{turned};
+ghost use Rattle.emit.specs.Stencils.{InOrder, rowCount, listed, stencilRows};
 
-fn only_corners(rows: &mut [u32], at: usize, n: usize, keep: bool, t: Tetra, o: Order)
-    requires { ⌜ InOrder n t o ⌝ }
-    requires { ⌜ at + 4 ≤ length (now rows) ⌝ }
-    ensures { λ _. ⌜ now (rows .exit) ≡ sets (now (rows .entry)) at (stencilIds plus-zero-only n t o keep) ⌝ }
+// The row as it is, or with its last two corners exchanged.
+fn turn(keep: bool, r: Row) -> Row
+    ensures { λ s. ⌜ s ≡ turned keep r ⌝ }
+{
+    if keep {
+        return r;
+    }
+    let third = r.d;
+    let fourth = r.c;
+    let first = r.a;
+    let second = r.b;
+    Row {
+        a: first,
+        b: second,
+        c: third,
+        d: fourth,
+    }
+}
+
+fn only_corners(t: Tetra, o: Order, keep: bool) -> Rows
+    ensures { λ r. ⌜ listed r ≡ stencilRows t o keep plus-zero-only ⌝ }
 {
     let c1 = corners::point(t, o.first);
     let c2 = corners::point(t, o.second);
     let c3 = corners::point(t, o.third);
     let c4 = corners::point(t, o.fourth);
-    corners::write_row(
-        rows,
-        at,
-        n,
+    let first = turn(
         keep,
         Row {
             a: c1,
@@ -36,12 +47,12 @@ fn only_corners(rows: &mut [u32], at: usize, n: usize, keep: bool, t: Tetra, o: 
             d: c4,
         },
     );
+    Rows::One(first)
 }
 
-fn three_plus_one_minus(rows: &mut [u32], at: usize, n: usize, keep: bool, t: Tetra, o: Order)
-    requires { ⌜ InOrder n t o ⌝ }
-    requires { ⌜ at + 12 ≤ length (now rows) ⌝ }
-    ensures { λ _. ⌜ now (rows .exit) ≡ sets (now (rows .entry)) at (stencilIds +++- n t o keep) ⌝ }
+fn three_plus_one_minus(t: Tetra, o: Order, keep: bool) -> Rows
+    requires { ⌜ InOrder t o ⌝ }
+    ensures { λ r. ⌜ listed r ≡ stencilRows t o keep +++- ⌝ }
 {
     let p1 = corners::point(t, o.first);
     let p2 = corners::point(t, o.second);
@@ -49,10 +60,7 @@ fn three_plus_one_minus(rows: &mut [u32], at: usize, n: usize, keep: bool, t: Te
     let p1m1 = corners::cut(t, o.first, o.fourth);
     let p2m1 = corners::cut(t, o.second, o.fourth);
     let p3m1 = corners::cut(t, o.third, o.fourth);
-    corners::write_row(
-        rows,
-        at,
-        n,
+    let first = turn(
         keep,
         Row {
             a: p1,
@@ -61,10 +69,7 @@ fn three_plus_one_minus(rows: &mut [u32], at: usize, n: usize, keep: bool, t: Te
             d: p3m1,
         },
     );
-    corners::write_row(
-        rows,
-        at + 4,
-        n,
+    let second = turn(
         !keep,
         Row {
             a: p1,
@@ -73,10 +78,7 @@ fn three_plus_one_minus(rows: &mut [u32], at: usize, n: usize, keep: bool, t: Te
             d: p3m1,
         },
     );
-    corners::write_row(
-        rows,
-        at + 8,
-        n,
+    let third = turn(
         keep,
         Row {
             a: p1,
@@ -85,12 +87,12 @@ fn three_plus_one_minus(rows: &mut [u32], at: usize, n: usize, keep: bool, t: Te
             d: p3m1,
         },
     );
+    Rows::Three(first, second, third)
 }
 
-fn two_plus_two_minus(rows: &mut [u32], at: usize, n: usize, keep: bool, t: Tetra, o: Order)
-    requires { ⌜ InOrder n t o ⌝ }
-    requires { ⌜ at + 12 ≤ length (now rows) ⌝ }
-    ensures { λ _. ⌜ now (rows .exit) ≡ sets (now (rows .entry)) at (stencilIds ++-- n t o keep) ⌝ }
+fn two_plus_two_minus(t: Tetra, o: Order, keep: bool) -> Rows
+    requires { ⌜ InOrder t o ⌝ }
+    ensures { λ r. ⌜ listed r ≡ stencilRows t o keep ++-- ⌝ }
 {
     let p1 = corners::point(t, o.first);
     let p2 = corners::point(t, o.second);
@@ -98,10 +100,7 @@ fn two_plus_two_minus(rows: &mut [u32], at: usize, n: usize, keep: bool, t: Tetr
     let p1m2 = corners::cut(t, o.first, o.fourth);
     let p2m1 = corners::cut(t, o.second, o.third);
     let p2m2 = corners::cut(t, o.second, o.fourth);
-    corners::write_row(
-        rows,
-        at,
-        n,
+    let first = turn(
         keep,
         Row {
             a: p1,
@@ -110,10 +109,7 @@ fn two_plus_two_minus(rows: &mut [u32], at: usize, n: usize, keep: bool, t: Tetr
             d: p2m2,
         },
     );
-    corners::write_row(
-        rows,
-        at + 4,
-        n,
+    let second = turn(
         keep,
         Row {
             a: p1,
@@ -122,10 +118,7 @@ fn two_plus_two_minus(rows: &mut [u32], at: usize, n: usize, keep: bool, t: Tetr
             d: p2m2,
         },
     );
-    corners::write_row(
-        rows,
-        at + 8,
-        n,
+    let third = turn(
         !keep,
         Row {
             a: p1,
@@ -134,22 +127,19 @@ fn two_plus_two_minus(rows: &mut [u32], at: usize, n: usize, keep: bool, t: Tetr
             d: p2m2,
         },
     );
+    Rows::Three(first, second, third)
 }
 
-fn two_plus_one_minus(rows: &mut [u32], at: usize, n: usize, keep: bool, t: Tetra, o: Order)
-    requires { ⌜ InOrder n t o ⌝ }
-    requires { ⌜ at + 8 ≤ length (now rows) ⌝ }
-    ensures { λ _. ⌜ now (rows .exit) ≡ sets (now (rows .entry)) at (stencilIds ++-0 n t o keep) ⌝ }
+fn two_plus_one_minus(t: Tetra, o: Order, keep: bool) -> Rows
+    requires { ⌜ InOrder t o ⌝ }
+    ensures { λ r. ⌜ listed r ≡ stencilRows t o keep ++-0 ⌝ }
 {
     let p1 = corners::point(t, o.first);
     let p2 = corners::point(t, o.second);
     let z1 = corners::point(t, o.fourth);
     let p1m1 = corners::cut(t, o.first, o.third);
     let p2m1 = corners::cut(t, o.second, o.third);
-    corners::write_row(
-        rows,
-        at,
-        n,
+    let first = turn(
         keep,
         Row {
             a: p1,
@@ -158,10 +148,7 @@ fn two_plus_one_minus(rows: &mut [u32], at: usize, n: usize, keep: bool, t: Tetr
             d: z1,
         },
     );
-    corners::write_row(
-        rows,
-        at + 4,
-        n,
+    let second = turn(
         !keep,
         Row {
             a: p1,
@@ -170,21 +157,18 @@ fn two_plus_one_minus(rows: &mut [u32], at: usize, n: usize, keep: bool, t: Tetr
             d: z1,
         },
     );
+    Rows::Two(first, second)
 }
 
-fn one_plus_three_minus(rows: &mut [u32], at: usize, n: usize, keep: bool, t: Tetra, o: Order)
-    requires { ⌜ InOrder n t o ⌝ }
-    requires { ⌜ at + 4 ≤ length (now rows) ⌝ }
-    ensures { λ _. ⌜ now (rows .exit) ≡ sets (now (rows .entry)) at (stencilIds +--- n t o keep) ⌝ }
+fn one_plus_three_minus(t: Tetra, o: Order, keep: bool) -> Rows
+    requires { ⌜ InOrder t o ⌝ }
+    ensures { λ r. ⌜ listed r ≡ stencilRows t o keep +--- ⌝ }
 {
     let p1 = corners::point(t, o.first);
     let p1m1 = corners::cut(t, o.first, o.second);
     let p1m2 = corners::cut(t, o.first, o.third);
     let p1m3 = corners::cut(t, o.first, o.fourth);
-    corners::write_row(
-        rows,
-        at,
-        n,
+    let first = turn(
         keep,
         Row {
             a: p1,
@@ -193,21 +177,18 @@ fn one_plus_three_minus(rows: &mut [u32], at: usize, n: usize, keep: bool, t: Te
             d: p1m3,
         },
     );
+    Rows::One(first)
 }
 
-fn one_plus_two_minus(rows: &mut [u32], at: usize, n: usize, keep: bool, t: Tetra, o: Order)
-    requires { ⌜ InOrder n t o ⌝ }
-    requires { ⌜ at + 4 ≤ length (now rows) ⌝ }
-    ensures { λ _. ⌜ now (rows .exit) ≡ sets (now (rows .entry)) at (stencilIds +--0 n t o keep) ⌝ }
+fn one_plus_two_minus(t: Tetra, o: Order, keep: bool) -> Rows
+    requires { ⌜ InOrder t o ⌝ }
+    ensures { λ r. ⌜ listed r ≡ stencilRows t o keep +--0 ⌝ }
 {
     let p1 = corners::point(t, o.first);
     let p1m1 = corners::cut(t, o.first, o.second);
     let p1m2 = corners::cut(t, o.first, o.third);
     let z1 = corners::point(t, o.fourth);
-    corners::write_row(
-        rows,
-        at,
-        n,
+    let first = turn(
         keep,
         Row {
             a: p1,
@@ -216,21 +197,18 @@ fn one_plus_two_minus(rows: &mut [u32], at: usize, n: usize, keep: bool, t: Tetr
             d: z1,
         },
     );
+    Rows::One(first)
 }
 
-fn one_plus_one_minus(rows: &mut [u32], at: usize, n: usize, keep: bool, t: Tetra, o: Order)
-    requires { ⌜ InOrder n t o ⌝ }
-    requires { ⌜ at + 4 ≤ length (now rows) ⌝ }
-    ensures { λ _. ⌜ now (rows .exit) ≡ sets (now (rows .entry)) at (stencilIds +-00 n t o keep) ⌝ }
+fn one_plus_one_minus(t: Tetra, o: Order, keep: bool) -> Rows
+    requires { ⌜ InOrder t o ⌝ }
+    ensures { λ r. ⌜ listed r ≡ stencilRows t o keep +-00 ⌝ }
 {
     let p1 = corners::point(t, o.first);
     let p1m1 = corners::cut(t, o.first, o.second);
     let z1 = corners::point(t, o.third);
     let z2 = corners::point(t, o.fourth);
-    corners::write_row(
-        rows,
-        at,
-        n,
+    let first = turn(
         keep,
         Row {
             a: p1,
@@ -239,31 +217,23 @@ fn one_plus_one_minus(rows: &mut [u32], at: usize, n: usize, keep: bool, t: Tetr
             d: z2,
         },
     );
+    Rows::One(first)
 }
 
 // The pattern's number chooses the stencil.
-fn write_stencil(
-    rows: &mut [u32],
-    at: usize,
-    n: usize,
-    keep: bool,
-    t: Tetra,
-    o: Order,
-    pattern: usize,
-)
-    requires { ⌜ InOrder n t o ⌝ }
-    requires { ⌜ at + 4 * rowCount (stencilOf pattern) ≤ length (now rows) ⌝ }
-    ensures { λ _. ⌜ now (rows .exit) ≡ sets (now (rows .entry)) at (stencilIds (stencilOf pattern) n t o keep) ⌝ }
+pub fn rows_for(pattern: usize, t: Tetra, o: Order, keep: bool) -> Rows
+    requires { ⌜ InOrder t o ⌝ }
+    ensures { λ r. ⌜ listed r ≡ stencilRows t o keep (stencilOf pattern) ⌝ }
 {
     match pattern {
-        0..=4 => {}
-        6 => one_plus_one_minus(rows, at, n, keep, t, o),
-        7 => one_plus_two_minus(rows, at, n, keep, t, o),
-        8 => one_plus_three_minus(rows, at, n, keep, t, o),
-        11 => two_plus_one_minus(rows, at, n, keep, t, o),
-        12 => two_plus_two_minus(rows, at, n, keep, t, o),
-        16 => three_plus_one_minus(rows, at, n, keep, t, o),
-        _ => only_corners(rows, at, n, keep, t, o),
+        0..=4 => Rows::None,
+        6 => one_plus_one_minus(t, o, keep),
+        7 => one_plus_two_minus(t, o, keep),
+        8 => one_plus_three_minus(t, o, keep),
+        11 => two_plus_one_minus(t, o, keep),
+        12 => two_plus_two_minus(t, o, keep),
+        16 => three_plus_one_minus(t, o, keep),
+        _ => only_corners(t, o, keep),
     }
 }
 
@@ -279,13 +249,4 @@ pub fn row_count(pattern: usize) -> usize
         16 => 3,
         _ => 1,
     }
-}
-
-fn agrees(a: bool, b: bool) -> bool
-    ensures { λ r. ⌜ r ≡ Bool·beq a b ⌝ }
-{
-    if a {
-        return b;
-    }
-    !b
 }

@@ -49,7 +49,7 @@ number-at-requires c κs = search needs
 -- src/corners.rt:278:1
 returns : tie.Need-returns
 unfolding cuts
-returns c = let a = c .before .before .before in ap (λ (x : ℕ). Edge x _) (c .number-at .ensures) ∙ cut-is (a .args .t) (a .args .u) (a .args .v) _ (a .pre .0) (a .pre .1 .0) (a .pre .1 .1) refl
+returns c = let a = c .before .before .before in cut-is (a .args .t) (a .args .u) (a .args .v) _ (a .pre .0) (a .pre .1 .0) (a .pre .1 .1) (c .number-at .ensures)
 
 pub cut-spec : {M : Type 1} → statement M
 cut-spec =

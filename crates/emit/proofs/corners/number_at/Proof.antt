@@ -19,7 +19,7 @@ returns-3 c = search needs
 
 -- src/corners.rt:260:1
 returns-4 : tie.Need-returns-4
-returns-4 c = last-corner _ _ (c .match .rest .0 .0) (c .match .rest .0 .1) (c .match .rest .1)
+returns-4 c = last-corner _ _ (c .match .rest .0 .0 .1) (c .match .rest .0 .1) (c .match .rest .1)
 
 pub number-at-spec : {M : Type 1} → statement M
 number-at-spec = tie.close (tie.spec returns returns-2 returns-3 returns-4)

@@ -1,0 +1,19 @@
+use native.Mathlib.Omega.{arith}
+use borrow.Author.Needs.{needs}
+use Rattle.emit.proofs.cubes.quarter_weights.Statement.{statement}
+use Rattle.emit.proofs.cubes.quarter_weights.Tie as tie
+
+returns : tie.Need-returns
+returns c = search needs
+
+returns-2 : tie.Need-returns-2
+returns-2 c = search needs
+
+returns-3 : tie.Need-returns-3
+returns-3 c = search needs
+
+returns-4 : tie.Need-returns-4
+returns-4 c = search needs
+
+pub quarter-weights-spec : {M : Type 1} → statement M
+quarter-weights-spec = tie.close (tie.spec returns returns-2 returns-3 returns-4)
