@@ -3,3 +3,5 @@ pub mod CornerLaws
 pub mod Written
 pub mod StencilLaws
 pub mod WeightLaws
+pub mod CubeLaws
+pub mod PassLaws

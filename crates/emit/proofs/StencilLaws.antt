@@ -20,9 +20,9 @@ use Rattle.emit.specs.declared.Weights.{Weights}
 use Rattle.emit.specs.declared.Order.{Order}
 use Rattle.emit.specs.Corners.{axisAt, quarterAt, vertexAt, Known, KnownRow, cornerId, rowIds, turned, cornerOf, pointAt, cutAt, startBetween}
 use Rattle.emit.specs.Picks.{sum, picked, chosen, ordered, isEven}
-use Rattle.emit.specs.Stencils.{lines, turnedRow, stencilRows, KnownRows, none, more, allIds, rowCount, tetraIds, KnownTetra}
+use Rattle.emit.specs.Stencils.{lines, turnedRow, stencilRows, KnownRows, none, more, allIds, rowCount, tetraIds, KnownTetra, InOrder, Room}
 use Rattle.emit.proofs.CornerLaws.{way-lt}
-use Rattle.emit.proofs.Written.{sets-append}
+use Rattle.emit.proofs.Written.{sets-append, sets-none}
 
 -- as many rows as the table has
 pub lines-count : {A B : Type 0} (point : ℕ → A) (cut : ℕ → ℕ → A) (row : Bool → A → A → A → A → B) (st : Stencil) (o : Order) (k : Bool)
@@ -82,33 +82,33 @@ module _ (n : ℕ) (t : Tetra) (h : KnownTetra n t) where
     way-lt (axisAt (t .axis)) (quarterAt (t .edge)) (vertexAt u) (vertexAt v),
   )
 
-turned-known : (n : ℕ) (k : Bool) {a b c d : Corner} → Known n a → Known n b → Known n c → Known n d → KnownRow n (turnedRow k a b c d)
-turned-known n true p q r s = record { first = p; second = q; third = r; fourth = s }
-turned-known n false p q r s = record { first = p; second = q; third = s; fourth = r }
+turned-known : (n : ℕ) (k : Bool) (a b c d : Corner) → Known n a → Known n b → Known n c → Known n d → KnownRow n (turnedRow k a b c d)
+turned-known n true a b c d p q r s = record { first = p; second = q; third = r; fourth = s }
+turned-known n false a b c d p q r s = record { first = p; second = q; third = s; fourth = r }
 
 pub lines-known : (n : ℕ) (point : ℕ → Corner) (cut : ℕ → ℕ → Corner) → ((v : ℕ) → Known n (point v)) → ((u v : ℕ) → Known n (cut u v))
     → (st : Stencil) (o : Order) (k : Bool) → KnownRows n (lines point cut turnedRow st o k)
 unfolding lines
 lines-known n point cut P C no-plus o k = none
 lines-known n point cut P C plus-zero-only o k =
-    more (turned-known n k (P (o .first)) (P (o .second)) (P (o .third)) (P (o .fourth))) none
+    more (turned-known n k (point (o .first)) (point (o .second)) (point (o .third)) (point (o .fourth)) (P (o .first)) (P (o .second)) (P (o .third)) (P (o .fourth))) none
 lines-known n point cut P C +++- o k =
-    more (turned-known n k (P (o .first)) (P (o .second)) (P (o .third)) (C (o .third) (o .fourth)))
-    (more (turned-known n (not k) (P (o .first)) (P (o .second)) (C (o .second) (o .fourth)) (C (o .third) (o .fourth)))
-    (more (turned-known n k (P (o .first)) (C (o .first) (o .fourth)) (C (o .second) (o .fourth)) (C (o .third) (o .fourth))) none))
+    more (turned-known n k (point (o .first)) (point (o .second)) (point (o .third)) (cut (o .third) (o .fourth)) (P (o .first)) (P (o .second)) (P (o .third)) (C (o .third) (o .fourth)))
+    (more (turned-known n (not k) (point (o .first)) (point (o .second)) (cut (o .second) (o .fourth)) (cut (o .third) (o .fourth)) (P (o .first)) (P (o .second)) (C (o .second) (o .fourth)) (C (o .third) (o .fourth)))
+    (more (turned-known n k (point (o .first)) (cut (o .first) (o .fourth)) (cut (o .second) (o .fourth)) (cut (o .third) (o .fourth)) (P (o .first)) (C (o .first) (o .fourth)) (C (o .second) (o .fourth)) (C (o .third) (o .fourth))) none))
 lines-known n point cut P C ++-- o k =
-    more (turned-known n k (P (o .first)) (P (o .second)) (C (o .second) (o .third)) (C (o .second) (o .fourth)))
-    (more (turned-known n k (P (o .first)) (C (o .first) (o .third)) (C (o .first) (o .fourth)) (C (o .second) (o .fourth)))
-    (more (turned-known n (not k) (P (o .first)) (C (o .first) (o .third)) (C (o .second) (o .third)) (C (o .second) (o .fourth))) none))
+    more (turned-known n k (point (o .first)) (point (o .second)) (cut (o .second) (o .third)) (cut (o .second) (o .fourth)) (P (o .first)) (P (o .second)) (C (o .second) (o .third)) (C (o .second) (o .fourth)))
+    (more (turned-known n k (point (o .first)) (cut (o .first) (o .third)) (cut (o .first) (o .fourth)) (cut (o .second) (o .fourth)) (P (o .first)) (C (o .first) (o .third)) (C (o .first) (o .fourth)) (C (o .second) (o .fourth)))
+    (more (turned-known n (not k) (point (o .first)) (cut (o .first) (o .third)) (cut (o .second) (o .third)) (cut (o .second) (o .fourth)) (P (o .first)) (C (o .first) (o .third)) (C (o .second) (o .third)) (C (o .second) (o .fourth))) none))
 lines-known n point cut P C ++-0 o k =
-    more (turned-known n k (P (o .first)) (P (o .second)) (C (o .second) (o .third)) (P (o .fourth)))
-    (more (turned-known n (not k) (P (o .first)) (C (o .first) (o .third)) (C (o .second) (o .third)) (P (o .fourth))) none)
+    more (turned-known n k (point (o .first)) (point (o .second)) (cut (o .second) (o .third)) (point (o .fourth)) (P (o .first)) (P (o .second)) (C (o .second) (o .third)) (P (o .fourth)))
+    (more (turned-known n (not k) (point (o .first)) (cut (o .first) (o .third)) (cut (o .second) (o .third)) (point (o .fourth)) (P (o .first)) (C (o .first) (o .third)) (C (o .second) (o .third)) (P (o .fourth))) none)
 lines-known n point cut P C +--- o k =
-    more (turned-known n k (P (o .first)) (C (o .first) (o .second)) (C (o .first) (o .third)) (C (o .first) (o .fourth))) none
+    more (turned-known n k (point (o .first)) (cut (o .first) (o .second)) (cut (o .first) (o .third)) (cut (o .first) (o .fourth)) (P (o .first)) (C (o .first) (o .second)) (C (o .first) (o .third)) (C (o .first) (o .fourth))) none
 lines-known n point cut P C +--0 o k =
-    more (turned-known n k (P (o .first)) (C (o .first) (o .second)) (C (o .first) (o .third)) (P (o .fourth))) none
+    more (turned-known n k (point (o .first)) (cut (o .first) (o .second)) (cut (o .first) (o .third)) (point (o .fourth)) (P (o .first)) (C (o .first) (o .second)) (C (o .first) (o .third)) (P (o .fourth))) none
 lines-known n point cut P C +-00 o k =
-    more (turned-known n k (P (o .first)) (C (o .first) (o .second)) (P (o .third)) (P (o .fourth))) none
+    more (turned-known n k (point (o .first)) (cut (o .first) (o .second)) (point (o .third)) (point (o .fourth)) (P (o .first)) (C (o .first) (o .second)) (P (o .third)) (P (o .fourth))) none
 
 pub rows-known : (n : ℕ) (t : Tetra) → KnownTetra n t → (o : Order) (k : Bool) (st : Stencil) → KnownRows n (stencilRows t o k st)
 rows-known n t h o k st = lines-known n (pointAt t) (cutAt t) (point-known n t h) (cut-known n t h) st o k
@@ -120,15 +120,15 @@ pub rest-known : {n : ℕ} {r : Row} {l : List Row} → KnownRows n (r ∷ l) �
 rest-known (more p q) = q
 
 -- rows one after the other
-module _ (n : ℕ) where
-  pub one-row : {l now : List ℕ} {i : ℕ} {a : Row} → now ≡ sets l i (rowIds n a) → now ≡ sets l i (allIds n (a ∷ []))
+module _ (n : ℕ) (l : List ℕ) (i : ℕ) (a : Row) where
+  pub one-row : (now : List ℕ) → now ≡ sets l i (rowIds n a) → now ≡ sets l i (allIds n (a ∷ []))
   unfolding allIds gather
-  one-row {l} {i = i} {a} e = e ∙ ap (sets l i) (sym (append-nil (rowIds n a)))
+  one-row now e = e ∙ ap (sets l i) (sym (append-nil (rowIds n a)))
 
-  pub then-rows : {l mid now : List ℕ} {i : ℕ} {a : Row} {rs : List Row} → mid ≡ sets l i (rowIds n a) → now ≡ sets mid (i + 4) (allIds n rs)
+  pub then-rows : (rs : List Row) (mid now : List ℕ) → mid ≡ sets l i (rowIds n a) → now ≡ sets mid (i + 4) (allIds n rs)
       → now ≡ sets l i (allIds n (a ∷ rs))
   unfolding allIds gather rowIds
-  then-rows {l} {i = i} {a} {rs} e f = f ∙ rw e (sym (sets-append (rowIds n a) (allIds n rs) l i))
+  then-rows rs mid now e f = f ∙ rw e (sym (sets-append (rowIds n a) (allIds n rs) l i))
 
 -- an order that is made of corners stays among them
 pub record Among (o : Order) : Type 0 where
@@ -165,3 +165,58 @@ count-one n h p q r =
     go false true c = refl
     go false false true = refl
     go false false false = refl
+
+-- a row from its corners
+pub row-is : (k : Bool) (r : Row) (a b c d e f g h : Corner) → r ≡ turnedRow k a b c d → a ≡ e → b ≡ f → c ≡ g → d ≡ h → r ≡ turnedRow k e f g h
+row-is k r a b c d e f g h q p₁ p₂ p₃ p₄ = q ∙ (λ i. turnedRow k (p₁ i) (p₂ i) (p₃ i) (p₄ i))
+
+pub beq-true : (a b : Bool) → a ≡ true → b ≡ Bool·beq a b
+beq-true a true e = rw e refl
+beq-true a false e = rw e refl
+
+pub beq-false : (a b : Bool) → a ≡ false → not b ≡ Bool·beq a b
+beq-false a true e = rw e refl
+beq-false a false e = rw e refl
+
+empty : (l : List ℕ) → length l ≡ 0 → l ≡ []
+empty [] e = refl
+empty (x ∷ l) e = absurd (omega arith)
+
+module _ (n : ℕ) (wound : Bool) (t : Tetra) (w : Weights) where
+  -- a tetrahedron without rows; one whose rows are only counted
+  pub none-for : (c : ℕ) → c ≡ rowCount (stencilOf (sum w)) → c ≡ 0 → (l : List ℕ) (i : ℕ)
+      → (i ≡ i + length (tetraIds n wound t w)) × (l ≡ sets l i (tetraIds n wound t w))
+  none-for c e z l i =
+      let long = tetra-long n wound t w in
+      (omega arith, rw (empty (tetraIds n wound t w) (omega arith)) refl)
+
+  pub counted-for : (c : ℕ) → c ≡ rowCount (stencilOf (sum w)) → (l : List ℕ) (i : ℕ) → length l ≡ 0
+      → (i + 4 * c ≡ i + length (tetraIds n wound t w)) × (l ≡ sets l i (tetraIds n wound t w))
+  counted-for c e l i z = let long = tetra-long n wound t w in (omega arith, sets-none l (tetraIds n wound t w) i z)
+
+  module _ (o : Order) (even keep : Bool) (rows : List Row) (p : o ≡ ordered w) (q : even ≡ isEven w) (r : keep ≡ Bool·beq wound even)
+      (s : rows ≡ stencilRows t o keep (stencilOf (sum w))) where
+    same-rows : rows ≡ stencilRows t (ordered w) (Bool·beq wound (isEven w)) (stencilOf (sum w))
+    same-rows = s ∙ (λ i. stencilRows t (p i) ((r ∙ ap (Bool·beq wound) q) i) (stencilOf (sum w)))
+
+    pub written-for : (c : ℕ) → c ≡ rowCount (stencilOf (sum w)) → (l now : List ℕ) (i : ℕ) → now ≡ sets l i (allIds n rows)
+        → (i + 4 * c ≡ i + length (tetraIds n wound t w)) × (now ≡ sets l i (tetraIds n wound t w))
+    unfolding tetraIds
+    written-for c e l now i h =
+        let long = tetra-long n wound t w in
+        (omega arith, h ∙ ap (λ (x : List Row). sets l i (allIds n x)) same-rows)
+
+    pub known-for : KnownTetra n t → KnownRows n rows
+    known-for h = rw same-rows (rows-known n t h (ordered w) (Bool·beq wound (isEven w)) (stencilOf (sum w)))
+
+    pub room-for : (l : List ℕ) (i : ℕ) → Room l i (length (tetraIds n wound t w)) → (length l ≡ 0 → ⊥) → i + 4 * length rows ≤ length l
+    unfolding tetraIds
+    room-for l i g f =
+        let long = ids-long n rows in
+        let same = ap (λ (x : List Row). length (allIds n x)) same-rows in
+        omega (arith, g .fits (omega (arith, f)))
+
+pub in-order : (n : ℕ) (t : Tetra) (w : Weights) (o : Order) → KnownTetra n t → o ≡ ordered w → InOrder t o
+in-order n t w o h e =
+    let a = ordered-among w in
+    record { kind = h .kind; places = rw e (a .first-in, a .second-in, a .third-in, a .fourth-in) }

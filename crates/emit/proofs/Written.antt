@@ -23,7 +23,7 @@ sets-none [] [] i e = refl
 sets-none [] (v ∷ vs) i e = sets-none [] vs (suc i) e
 sets-none (x ∷ l) vs i e = absurd (omega arith)
 
-from-more : (a n : ℕ) → from a (suc n) ≡ from a n ++ (a + n ∷ [])
+from-more : (a n : ℕ) → from a (suc n) ≡ from a n ++ ((a + n) ∷ [])
 unfolding from
 from-more a zero = rw (add-zero a) refl
 from-more a (suc n) =
@@ -40,7 +40,7 @@ module _ (f : ℕ → List ℕ) where
   unfolding gather
   one-more k =
       let e : 0 + k ≡ k = omega arith in
-      rw (add-one k) (ap (gather f) (from-more 0 k) ∙ gather-append f (from 0 k) (0 + k ∷ []) ∙ rw (e, append-nil (f k)) refl)
+      rw (add-one k) (ap (gather f) (from-more 0 k) ∙ gather-append f (from 0 k) ((0 + k) ∷ []) ∙ rw (e, append-nil (f k)) refl)
 
   longer : (k : ℕ) → length (gather f (below (k + 1))) ≡ length (gather f (below k)) + length (f k)
   longer k = ap length (one-more k) ∙ length-append (gather f (below k)) (f k)

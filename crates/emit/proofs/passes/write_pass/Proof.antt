@@ -10,25 +10,25 @@ abbrev μ : tie.MeasureT-loop
 μ = ?
 
 loop-holds : tie.Need-loop-holds Inv μ
-loop-holds c = search needs
+loop-holds c = ?
 
 write-layer-requires : tie.Need-write-layer-requires Inv μ
-write-layer-requires c κs = search needs
+write-layer-requires c κs = ?
 
 add-z : tie.Need-add-z Inv μ
-add-z c = search needs
+add-z c = ?
 
 loop-less : tie.Need-loop-less Inv μ
-loop-less c = search needs
+loop-less c = ?
 
 loop-again : tie.Need-loop-again Inv μ
-loop-again c = search needs
+loop-again c = ?
 
 same-length : tie.Need-same-length Inv μ
-same-length c = search needs
+same-length c = ?
 
 returns : tie.Need-returns Inv μ
-returns c = search needs
+returns c = ?
 
 pub write-pass-spec : {M : Type 1} → statement M
 write-pass-spec = tie.close (tie.spec Inv μ loop-holds write-layer-requires add-z loop-less loop-again same-length returns)
