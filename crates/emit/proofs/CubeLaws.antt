@@ -7,6 +7,7 @@ use mathlib.Core.List.{List}
 use lib.IntN.{ℤ}
 use lib.ListN.{length}
 use Rattle.basics.specs.Lists.{gather, below}
+use Rattle.stencil.specs.Tetrahedron.{q3}
 use Rattle.stencil.proofs.Sign.{winds}
 use Rattle.emit.specs.declared.Tetra.{Tetra}
 use Rattle.emit.specs.declared.Weights.{Weights}
@@ -33,6 +34,15 @@ module _ (e : ℕ) (p : e ≡ 0 → ⊥) (q : e ≡ 1 → ⊥) (r : e ≡ 2 → 
   last-weights w = go e p q r
     where
       go : (e : ℕ) → (e ≡ 0 → ⊥) → (e ≡ 1 → ⊥) → (e ≡ 2 → ⊥) → quarterWeights w 3 ≡ quarterWeights w e
+      go zero p q r = absurd (p refl)
+      go (suc zero) p q r = absurd (q refl)
+      go (suc (suc zero)) p q r = absurd (r refl)
+      go (suc (suc (suc e))) p q r = refl
+
+  pub last-winds : winds q3 ≡ winds (quarterAt e)
+  last-winds = go e p q r
+    where
+      go : (e : ℕ) → (e ≡ 0 → ⊥) → (e ≡ 1 → ⊥) → (e ≡ 2 → ⊥) → winds q3 ≡ winds (quarterAt e)
       go zero p q r = absurd (p refl)
       go (suc zero) p q r = absurd (q refl)
       go (suc (suc zero)) p q r = absurd (r refl)

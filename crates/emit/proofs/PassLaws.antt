@@ -6,9 +6,12 @@ use mathlib.Core.List.{List}
 use lib.IntN.{ℤ}
 use lib.ListN.{length}
 use Rattle.basics.specs.Lists.{gather, below}
+use Rattle.lattice.specs.Counts.{corners}
+use Rattle.lattice.specs.Point.{linear}
 use Rattle.emit.specs.declared.Cube.{Cube}
 use Rattle.emit.specs.declared.Pass.{Pass}
 use Rattle.emit.specs.Corners.{most}
+use Rattle.emit.specs.Stencils.{Room}
 use Rattle.emit.specs.Cubes.{KnownCube, cubeIds}
 use Rattle.emit.specs.Passes.{movedCube, KnownRun, placedIds, runIds, InPass, firstCorner, firstCentre, lineIds, layerIds, passIds, lineMost, layerMost, passMost}
 use Rattle.emit.proofs.CubeLaws.{known-within, cube-most}
@@ -61,3 +64,25 @@ pub pass-most : (p : Pass) (samples : List ℤ) (state : List ℕ) → InPass p 
 unfolding passIds
 pass-most p samples state h =
     omega (arith, bounded (layerIds p samples state) layerMost (p .mz) (λ z l. layer-most p samples state h z l) (p .mz) (omega arith), h .z-few)
+
+-- a line, from the numbers that the code computes
+module _ (p : Pass) (z y corner first second : ℕ) (e : corner ≡ 0 + (p .sizes .nx + 1) * (y + (p .sizes .ny + 1) * z))
+    (f : first ≡ corners (p .sizes)) (g : second ≡ 0 + p .sizes .nx * (y + p .sizes .ny * z)) where
+  corner-is : corner ≡ firstCorner (p .sizes) y z
+  unfolding linear
+  corner-is = e
+
+  centre-is : first + second ≡ firstCentre (p .sizes) y z
+  unfolding linear
+  centre-is = λ i. f i + g i
+
+  pub line-known : InPass p → z < p .mz → y < p .my → KnownRun (p .n) (p .step) corner (first + second) (p .mx)
+  line-known h l m = rw (corner-is, centre-is) (h .known z y l m)
+
+  pub line-is : (samples : List ℤ) (state : List ℕ) → runIds (p .n) samples state (p .step) corner (first + second) (p .mx) ≡ lineIds p samples state z y
+  unfolding lineIds
+  line-is samples state = λ i. runIds (p .n) samples state (p .step) (corner-is i) (centre-is i) (p .mx)
+
+  pub line-room : (samples : List ℤ) (state : List ℕ) (l : List ℕ) (i : ℕ) → Room l i (length (lineIds p samples state z y))
+      → Room l i (length (runIds (p .n) samples state (p .step) corner (first + second) (p .mx)))
+  line-room samples state l i r = rw (line-is samples state) r

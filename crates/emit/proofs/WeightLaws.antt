@@ -1,12 +1,12 @@
 -- Weights of labels from the tests that the code makes of a sample and of a state byte. Assumes nothing.
-use Prim.Native.Nat.{ℕ, _≤_}
+use Prim.Native.Nat.{ℕ, _^_, _<_}
 use native.Mathlib.Omega.{arith}
 use mathlib.Core.Path.{_≡_, refl, sym, ap, _∙_}
 use mathlib.Core.Bool.{Bool, true, false}
 use mathlib.Core.List.{List}
 use lib.IntN.{ℤ, pos, negsuc}
 use lib.ListN.{getD}
-use lib.Signed.{ltZ}
+use lib.Signed.{mag, ltZ}
 use mir.Syntax.{w16}
 use mir.Val.{ofZ, toZ, SFits}
 use mir.ValLaws.{toZ-ofZ}
@@ -48,6 +48,8 @@ module _ (samples : List ℤ) (state : List ℕ) (p : ℕ) where
   unfolding weightAt labelAfter weight
   weight-moved h = simp (ne-eqb (getD state p 0) 0 h)
 
-  pub weight-still : {w : ℕ} → getD state p 0 ≡ 0 → w ≡ weight (labelOf (getD samples p (pos 0))) → w ≡ weightAt samples state p
+  pub weight-still : {w : ℕ} → getD state p 0 ≡ 0 → mag (getD samples p (pos 0)) < 2 ^ 15
+      → w ≡ weight (labelOf (toZ w16 (ofZ w16 (getD samples p (pos 0))))) → w ≡ weightAt samples state p
   unfolding weightAt labelAfter
-  weight-still h e = e ∙ simp (eq-eqb (getD state p 0) 0 h)
+  weight-still h m e =
+      e ∙ ap (λ (z : ℤ). weight (labelOf z)) (toZ-ofZ w16 (getD samples p (pos 0)) (record { sfits = m })) ∙ simp (eq-eqb (getD state p 0) 0 h)

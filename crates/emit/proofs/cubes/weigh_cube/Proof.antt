@@ -5,22 +5,22 @@ use Rattle.emit.proofs.cubes.weigh_cube.Statement.{statement}
 use Rattle.emit.proofs.cubes.weigh_cube.Tie as tie
 
 weigh-requires : tie.Need-weigh-requires
-weigh-requires c κs = ?
+weigh-requires c κs = let a = c .before .pre in (a .0 .low-in, omega (arith, a .0 .low-in, a .1))
 
 weigh-requires-2 : tie.Need-weigh-requires-2
-weigh-requires-2 c κs = ?
+weigh-requires-2 c κs = let a = c .before .before .pre in (a .0 .high-in, omega (arith, a .0 .high-in, a .1))
 
 weigh-requires-3 : tie.Need-weigh-requires-3
-weigh-requires-3 c κs = ?
+weigh-requires-3 c κs = let a = c .before .before .before .pre in (a .0 .mm-in, omega (arith, a .0 .mm-in, a .1))
 
 weigh-requires-4 : tie.Need-weigh-requires-4
-weigh-requires-4 c κs = ?
+weigh-requires-4 c κs = let a = c .before .before .before .before .pre in (a .0 .pm-in, omega (arith, a .0 .pm-in, a .1))
 
 weigh-requires-5 : tie.Need-weigh-requires-5
-weigh-requires-5 c κs = ?
+weigh-requires-5 c κs = let a = c .before .before .before .before .before .pre in (a .0 .pp-in, omega (arith, a .0 .pp-in, a .1))
 
 weigh-requires-6 : tie.Need-weigh-requires-6
-weigh-requires-6 c κs = ?
+weigh-requires-6 c κs = let a = c .before .before .before .before .before .before .pre in (a .0 .mp-in, omega (arith, a .0 .mp-in, a .1))
 
 returns : tie.Need-returns
 unfolding cubeWeights
