@@ -23,6 +23,10 @@ sets-none [] [] i e = refl
 sets-none [] (v ∷ vs) i e = sets-none [] vs (suc i) e
 sets-none (x ∷ l) vs i e = absurd (omega arith)
 
+-- what is written, under another name
+pub same-ids : (l : List ℕ) (i : ℕ) (a b now : List ℕ) (to : ℕ) → a ≡ b → (to ≡ i + length a) × (now ≡ sets l i a) → (to ≡ i + length b) × (now ≡ sets l i b)
+same-ids l i a b now to e w = (w .0 ∙ ap (λ (x : List ℕ). i + length x) e, w .1 ∙ ap (sets l i) e)
+
 from-more : (a n : ℕ) → from a (suc n) ≡ from a n ++ ((a + n) ∷ [])
 unfolding from
 from-more a zero = rw (add-zero a) refl

@@ -31,27 +31,27 @@ only-corners-requires c κs = search needs
 
 returns : tie.Need-returns
 unfolding stencilOf
-returns c = c .one-plus-one-minus .ensures ∙ ap (λ (k : ℕ). stencilRows _ _ _ (stencilOf k)) (sym (c .before .match .keys1))
+returns c = let a = c .before .before in c .one-plus-one-minus .ensures ∙ ap (λ (k : ℕ). stencilRows (a .args .t) (a .args .o) (a .args .keep) (stencilOf k)) (sym (c .before .match .keys1))
 
 returns-2 : tie.Need-returns-2
 unfolding stencilOf
-returns-2 c = c .one-plus-two-minus .ensures ∙ ap (λ (k : ℕ). stencilRows _ _ _ (stencilOf k)) (sym (c .before .match .keys2))
+returns-2 c = let a = c .before .before in c .one-plus-two-minus .ensures ∙ ap (λ (k : ℕ). stencilRows (a .args .t) (a .args .o) (a .args .keep) (stencilOf k)) (sym (c .before .match .keys2))
 
 returns-3 : tie.Need-returns-3
 unfolding stencilOf
-returns-3 c = c .one-plus-three-minus .ensures ∙ ap (λ (k : ℕ). stencilRows _ _ _ (stencilOf k)) (sym (c .before .match .keys3))
+returns-3 c = let a = c .before .before in c .one-plus-three-minus .ensures ∙ ap (λ (k : ℕ). stencilRows (a .args .t) (a .args .o) (a .args .keep) (stencilOf k)) (sym (c .before .match .keys3))
 
 returns-4 : tie.Need-returns-4
 unfolding stencilOf
-returns-4 c = c .two-plus-one-minus .ensures ∙ ap (λ (k : ℕ). stencilRows _ _ _ (stencilOf k)) (sym (c .before .match .keys4))
+returns-4 c = let a = c .before .before in c .two-plus-one-minus .ensures ∙ ap (λ (k : ℕ). stencilRows (a .args .t) (a .args .o) (a .args .keep) (stencilOf k)) (sym (c .before .match .keys4))
 
 returns-5 : tie.Need-returns-5
 unfolding stencilOf
-returns-5 c = c .two-plus-two-minus .ensures ∙ ap (λ (k : ℕ). stencilRows _ _ _ (stencilOf k)) (sym (c .before .match .keys5))
+returns-5 c = let a = c .before .before in c .two-plus-two-minus .ensures ∙ ap (λ (k : ℕ). stencilRows (a .args .t) (a .args .o) (a .args .keep) (stencilOf k)) (sym (c .before .match .keys5))
 
 returns-6 : tie.Need-returns-6
 unfolding stencilOf
-returns-6 c = c .three-plus-one-minus .ensures ∙ ap (λ (k : ℕ). stencilRows _ _ _ (stencilOf k)) (sym (c .before .match .keys6))
+returns-6 c = let a = c .before .before in c .three-plus-one-minus .ensures ∙ ap (λ (k : ℕ). stencilRows (a .args .t) (a .args .o) (a .args .keep) (stencilOf k)) (sym (c .before .match .keys6))
 
 returns-7 : tie.Need-returns-7
 unfolding stencilOf lines
