@@ -5,3 +5,5 @@ pub mod StencilLaws
 pub mod WeightLaws
 pub mod CubeLaws
 pub mod PassLaws
+pub mod Numbers
+pub mod Patterns

@@ -3,3 +3,4 @@ pub mod Picks
 pub mod Stencils
 pub mod Cubes
 pub mod Passes
+pub mod Mesh

@@ -10,7 +10,7 @@ use Rattle.lattice.specs.declared.Kind.the-variants.{Corner, Centre}
 use Rattle.lattice.specs.Axis.{Axis, along-x, along-y, along-z, xyz}
 use Rattle.lattice.specs.Counts.{Sized, size, grid, corners, points}
 use Rattle.lattice.specs.Point.{linear}
-use Rattle.stencil.specs.Tetrahedron.{q0, q1, q2, q3, unit, around}
+use Rattle.stencil.specs.Tetrahedron.{axes}
 use Rattle.emit.specs.declared.Cube.{Cube}
 use Rattle.emit.specs.declared.Pass.{Pass}
 use Rattle.emit.specs.Corners.{most}
@@ -80,3 +80,41 @@ layerMost = 196608
 
 abbrev pub passMost : ℕ
 passMost = 12582912
+
+-- the six points by the strides of the corners along the axis, the next one and the one after
+unfoldable pub stepBy : ℕ → ℕ → ℕ → ℕ → ℕ → Cube
+stepBy axis high u v w = record { axis = axis; low = 0; high = high; mm = u; pm = u + v; pp = u + v + w; mp = u + w }
+
+-- the pass along an axis
+unfoldable pub passOf : Sizes → ℕ → Axis → Pass
+passOf s n along-x =
+    record {
+      sizes = s;
+      n = n;
+      step = stepBy 0 1 1 (s .nx + 1) ((s .nx + 1) * (s .ny + 1));
+      mx = s .nx - 1;
+      my = s .ny;
+      mz = s .nz;
+    }
+passOf s n along-y =
+    record {
+      sizes = s;
+      n = n;
+      step = stepBy 1 (s .nx) (s .nx + 1) ((s .nx + 1) * (s .ny + 1)) 1;
+      mx = s .nx;
+      my = s .ny - 1;
+      mz = s .nz;
+    }
+passOf s n along-z =
+    record {
+      sizes = s;
+      n = n;
+      step = stepBy 2 (s .nx * s .ny) ((s .nx + 1) * (s .ny + 1)) 1 (s .nx + 1);
+      mx = s .nx;
+      my = s .ny;
+      mz = s .nz - 1;
+    }
+
+-- all rows of a block
+unfoldable pub blockIds : Sizes → List ℤ → List ℕ → List ℕ
+blockIds s samples state = gather (λ a. passIds (passOf s (points s) a) samples state) axes

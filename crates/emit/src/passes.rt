@@ -11,8 +11,10 @@ ghost use lib.ListN.{length};
 ghost use lib.Seq.{sets};
 ghost use Rattle.lattice.specs.Counts.{Sized, points};
 ghost use Rattle.emit.specs.Stencils.{Room, rowsMost};
-ghost use Rattle.emit.specs.Passes.{movedCube, KnownRun, InPass, Tables, runIds, lineIds, layerIds, passIds, lineMost, layerMost, passMost};
-ghost use Rattle.emit.specs.Corners.{most};
+ghost use Rattle.emit.specs.Passes.{movedCube, KnownRun, InPass, Tables, runIds, lineIds, layerIds, passIds, lineMost, layerMost, passMost, stepBy, passOf, blockIds};
+ghost use Rattle.filling.specs.Fill.{overwritten};
+ghost use Rattle.emit.specs.Corners.{most, axisAt};
+ghost use Rattle.emit.specs.Mesh.{rowTotal, signedTable};
 ghost use Rattle.emit.specs.Cubes.{KnownCube};
 
 // The six points, for a cube with this lowest corner and this centre.
@@ -120,4 +122,104 @@ fn write_pass(rows: &mut [u32], at: usize, samples: &[i16], state: &[u8], p: Pas
         to = write_layer(rows, to, samples, state, p, z);
     }
     to
+}
+
+// The six points of a cube, counted from its lowest corner and its centre, by the strides of the
+// corners along the axis, the next one and the one after.
+fn step_by(axis: usize, high: usize, u: usize, v: usize, w: usize) -> Cube
+    requires { ⌜ (u ≤ 4225) × (v ≤ 4225) × (w ≤ 4225) ⌝ }
+    ensures { λ r. ⌜ r ≡ stepBy axis high u v w ⌝ }
+{
+    Cube {
+        axis,
+        low: 0,
+        high,
+        mm: u,
+        pm: u + v,
+        pp: u + v + w,
+        mp: u + w,
+    }
+}
+
+// The pass along an axis.
+fn pass_along(s: Sizes, n: usize, axis: usize) -> Pass
+    requires { ⌜ Sized s ⌝ }
+    ensures { λ r. ⌜ r ≡ passOf s n (axisAt axis) ⌝ }
+{
+    let y = s.nx + 1;
+    let z = y * (s.ny + 1);
+    match axis {
+        0 => {
+            let step = step_by(0, 1, 1, y, z);
+            Pass {
+                sizes: s,
+                n,
+                step,
+                mx: s.nx - 1,
+                my: s.ny,
+                mz: s.nz,
+            }
+        }
+        1 => {
+            let step = step_by(1, s.nx, y, z, 1);
+            Pass {
+                sizes: s,
+                n,
+                step,
+                mx: s.nx,
+                my: s.ny - 1,
+                mz: s.nz,
+            }
+        }
+        _ => {
+            let high = s.nx * s.ny;
+            let step = step_by(2, high, z, 1, y);
+            Pass {
+                sizes: s,
+                n,
+                step,
+                mx: s.nx,
+                my: s.ny,
+                mz: s.nz - 1,
+            }
+        }
+    }
+}
+
+// All rows of a block, from the table's start on; the index after them.
+fn write_all(rows: &mut [u32], s: Sizes, samples: &[i16], state: &[u8]) -> usize
+    requires { ⌜ Sized s ⌝ }
+    requires { ⌜ (length (now samples) ≡ points s) × (length (now state) ≡ points s) ⌝ }
+    requires { ⌜ Room (now rows) 0 (length (blockIds s (now samples) (now state))) ⌝ }
+    ensures { λ r. ⌜ r ≡ 0 + length (blockIds s (now (samples .entry)) (now (state .entry))) ⌝ }
+    ensures { λ r. ⌜ now (rows .exit) ≡ sets (now (rows .entry)) 0 (blockIds s (now (samples .entry)) (now (state .entry))) ⌝ }
+{
+    let n = counts::point_count(s);
+    let along_x = pass_along(s, n, 0);
+    let along_y = pass_along(s, n, 1);
+    let along_z = pass_along(s, n, 2);
+    let x = write_pass(rows, 0, samples, state, along_x);
+    let y = write_pass(rows, x, samples, state, along_y);
+    write_pass(rows, y, samples, state, along_z)
+}
+
+// How many rows a block has: they are written into an empty table, which only counts them.
+pub fn count_rows(s: Sizes, samples: &[i16], state: &[u8]) -> usize
+    requires { ⌜ Sized s ⌝ }
+    requires { ⌜ (length (now samples) ≡ points s) × (length (now state) ≡ points s) ⌝ }
+    ensures { λ r. ⌜ r ≡ rowTotal s (now (samples .entry)) (now (state .entry)) ⌝ }
+{
+    let mut none = [0u32; 1];
+    let end = write_all(&mut none[..0], s, samples, state);
+    end / 4
+}
+
+// All rows of a block, written over the first entries of the row table.
+pub fn write_rows(s: Sizes, samples: &[i16], state: &[u8], rows: &mut [u32])
+    requires { ⌜ Sized s ⌝ }
+    requires { ⌜ (length (now samples) ≡ points s) × (length (now state) ≡ points s) ⌝ }
+    requires { ⌜ 4 * rowTotal s (now samples) (now state) ≤ length (now rows) ⌝ }
+    ensures { λ _. ⌜ now (rows .exit) ≡ overwritten (signedTable s (now (samples .entry)) (now (state .entry))) (now (rows .entry)) ⌝ }
+{
+    write_all(rows, s, samples, state);
 }
