@@ -7,3 +7,5 @@ pub mod CubeLaws
 pub mod PassLaws
 pub mod Numbers
 pub mod Patterns
+pub mod Ids
+pub mod Table

@@ -9,13 +9,13 @@ add-t6 : tie.Need-add-t6
 add-t6 c = omega arith
 
 add-t7 : tie.Need-add-t7
-add-t7 c = ?
+add-t7 c = omega arith
 
 add-t8 : tie.Need-add-t8
-add-t8 c = ?
+add-t8 c = omega arith
 
 add-t9 : tie.Need-add-t9
-add-t9 c = ?
+add-t9 c = omega arith
 
 returns : tie.Need-returns
 unfolding stepBy
