@@ -39,6 +39,10 @@ idBy n t (between u v) =
 abbrev entryRow : Bool → Entry Vertex → Entry Vertex → Entry Vertex → Entry Vertex → Row (Entry Vertex)
 entryRow k a b c d = if k then row a b c d else swapped (row a b c d)
 
+-- a corner of the code and an entry have one id
+pub record Same (n : ℕ) (t : Tetra) (a : Corner) (p : Entry Vertex) : Type 0 where
+  pub is : cornerId n a ≡ idBy n t p
+
 module _ (n : ℕ) (t : Tetra) where
   corner-id : (v : Vertex) → cornerOf t v ≡ idBy n t (between v v)
   unfolding idBy
@@ -47,13 +51,13 @@ module _ (n : ℕ) (t : Tetra) where
   corner-id v2 = refl
   corner-id v3 = refl
 
-  point-id : (v : ℕ) → cornerId n (pointAt t v) ≡ idBy n t (point (vertexAt v))
+  point-id : (v : ℕ) → Same n t (pointAt t v) (point (vertexAt v))
   unfolding pointAt
-  point-id v = corner-id (vertexAt v)
+  point-id v = record { is = corner-id (vertexAt v) }
 
-  cut-id : (u v : ℕ) → T (not (eqb (rank (vertexAt u)) (rank (vertexAt v)))) → cornerId n (cutAt t u v) ≡ idBy n t (cut (vertexAt u) (vertexAt v))
+  cut-id : (u v : ℕ) → T (not (eqb (rank (vertexAt u)) (rank (vertexAt v)))) → Same n t (cutAt t u v) (cut (vertexAt u) (vertexAt v))
   unfolding cutAt cut startBetween wayBetween idBy
-  cut-id u v ne = go (ltb (rank (vertexAt u)) (rank (vertexAt v)))
+  cut-id u v ne = record { is = go (ltb (rank (vertexAt u)) (rank (vertexAt v))) }
     where
       a : Axis
       a = axisAt (t .axis)
@@ -79,64 +83,64 @@ module _ (n : ℕ) (t : Tetra) where
 
       go : (b : Bool)
           → n + byteAt (cornerOf t (if b then startOf (codeBetween a e x y) x y else startOf (codeBetween a e y x) y x))
-            (if b then directionOf (codeBetween a e x y) else directionOf (codeBetween a e y x))
+          (if b then directionOf (codeBetween a e x y) else directionOf (codeBetween a e y x))
           ≡ idBy n t (if b then between x y else between y x)
       go true = rw forth refl
       go false = rw back refl
 
-  row-ids : (k : Bool) (a b c d : Corner) (p q r s : Entry Vertex) → cornerId n a ≡ idBy n t p → cornerId n b ≡ idBy n t q → cornerId n c ≡ idBy n t r
-      → cornerId n d ≡ idBy n t s → rowIds n (turnedRow k a b c d) ≡ ids (mapRow (idBy n t) (entryRow k p q r s))
+  row-ids : (k : Bool) {a b c d : Corner} {p q r s : Entry Vertex} → Same n t a p → Same n t b q → Same n t c r → Same n t d s
+      → rowIds n (turnedRow k a b c d) ≡ ids (mapRow (idBy n t) (entryRow k p q r s))
   unfolding rowIds
-  row-ids true a b c d p q r s e f g h = λ i. e i ∷ f i ∷ g i ∷ h i ∷ []
-  row-ids false a b c d p q r s e f g h = λ i. e i ∷ f i ∷ h i ∷ g i ∷ []
+  row-ids true e f g h = λ i. e .is i ∷ f .is i ∷ g .is i ∷ h .is i ∷ []
+  row-ids false e f g h = λ i. e .is i ∷ f .is i ∷ h .is i ∷ g .is i ∷ []
 
   module _ (o : Order) (k : Bool) (d : Apart o) where
-    c12 : cornerId n (cutAt t (o .first) (o .second)) ≡ idBy n t (cut (vertexAt (o .first)) (vertexAt (o .second)))
-    c12 = cut-id (o .first) (o .second) (d .1-2)
-
-    c13 : cornerId n (cutAt t (o .first) (o .third)) ≡ idBy n t (cut (vertexAt (o .first)) (vertexAt (o .third)))
-    c13 = cut-id (o .first) (o .third) (d .1-3)
-
-    c14 : cornerId n (cutAt t (o .first) (o .fourth)) ≡ idBy n t (cut (vertexAt (o .first)) (vertexAt (o .fourth)))
-    c14 = cut-id (o .first) (o .fourth) (d .1-4)
-
-    c23 : cornerId n (cutAt t (o .second) (o .third)) ≡ idBy n t (cut (vertexAt (o .second)) (vertexAt (o .third)))
-    c23 = cut-id (o .second) (o .third) (d .2-3)
-
-    c24 : cornerId n (cutAt t (o .second) (o .fourth)) ≡ idBy n t (cut (vertexAt (o .second)) (vertexAt (o .fourth)))
-    c24 = cut-id (o .second) (o .fourth) (d .2-4)
-
-    c34 : cornerId n (cutAt t (o .third) (o .fourth)) ≡ idBy n t (cut (vertexAt (o .third)) (vertexAt (o .fourth)))
-    c34 = cut-id (o .third) (o .fourth) (d .3-4)
-
-    p1 : cornerId n (pointAt t (o .first)) ≡ idBy n t (point (vertexAt (o .first)))
+    p1 : Same n t (pointAt t (o .first)) (point (vertexAt (o .first)))
     p1 = point-id (o .first)
 
-    p2 : cornerId n (pointAt t (o .second)) ≡ idBy n t (point (vertexAt (o .second)))
+    p2 : Same n t (pointAt t (o .second)) (point (vertexAt (o .second)))
     p2 = point-id (o .second)
 
-    p3 : cornerId n (pointAt t (o .third)) ≡ idBy n t (point (vertexAt (o .third)))
+    p3 : Same n t (pointAt t (o .third)) (point (vertexAt (o .third)))
     p3 = point-id (o .third)
 
-    p4 : cornerId n (pointAt t (o .fourth)) ≡ idBy n t (point (vertexAt (o .fourth)))
+    p4 : Same n t (pointAt t (o .fourth)) (point (vertexAt (o .fourth)))
     p4 = point-id (o .fourth)
+
+    c12 : Same n t (cutAt t (o .first) (o .second)) (cut (vertexAt (o .first)) (vertexAt (o .second)))
+    c12 = cut-id (o .first) (o .second) (d .1-2)
+
+    c13 : Same n t (cutAt t (o .first) (o .third)) (cut (vertexAt (o .first)) (vertexAt (o .third)))
+    c13 = cut-id (o .first) (o .third) (d .1-3)
+
+    c14 : Same n t (cutAt t (o .first) (o .fourth)) (cut (vertexAt (o .first)) (vertexAt (o .fourth)))
+    c14 = cut-id (o .first) (o .fourth) (d .1-4)
+
+    c23 : Same n t (cutAt t (o .second) (o .third)) (cut (vertexAt (o .second)) (vertexAt (o .third)))
+    c23 = cut-id (o .second) (o .third) (d .2-3)
+
+    c24 : Same n t (cutAt t (o .second) (o .fourth)) (cut (vertexAt (o .second)) (vertexAt (o .fourth)))
+    c24 = cut-id (o .second) (o .fourth) (d .2-4)
+
+    c34 : Same n t (cutAt t (o .third) (o .fourth)) (cut (vertexAt (o .third)) (vertexAt (o .fourth)))
+    c34 = cut-id (o .third) (o .fourth) (d .3-4)
 
     lines-ids : (st : Stencil)
         → allIds n (stencilRows t o k st)
         ≡ table (map (mapRow (idBy n t)) (lines (λ v. point (vertexAt v)) (λ u v. cut (vertexAt u) (vertexAt v)) entryRow st o k))
     unfolding allIds gather lines
     lines-ids no-plus = refl
-    lines-ids plus-zero-only = λ i. row-ids k _ _ _ _ _ _ _ _ p1 p2 p3 p4 i ++ []
+    lines-ids plus-zero-only = λ i. row-ids k p1 p2 p3 p4 i ++ []
     lines-ids +++- =
-        λ i. row-ids k _ _ _ _ _ _ _ _ p1 p2 p3 c34 i
-        ++ (row-ids (not k) _ _ _ _ _ _ _ _ p1 p2 c24 c34 i ++ (row-ids k _ _ _ _ _ _ _ _ p1 c14 c24 c34 i ++ []))
+        λ i. row-ids k p1 p2 p3 c34 i
+        ++ (row-ids (not k) p1 p2 c24 c34 i ++ (row-ids k p1 c14 c24 c34 i ++ []))
     lines-ids ++-- =
-        λ i. row-ids k _ _ _ _ _ _ _ _ p1 p2 c23 c24 i
-        ++ (row-ids k _ _ _ _ _ _ _ _ p1 c13 c14 c24 i ++ (row-ids (not k) _ _ _ _ _ _ _ _ p1 c13 c23 c24 i ++ []))
-    lines-ids ++-0 = λ i. row-ids k _ _ _ _ _ _ _ _ p1 p2 c23 p4 i ++ (row-ids (not k) _ _ _ _ _ _ _ _ p1 c13 c23 p4 i ++ [])
-    lines-ids +--- = λ i. row-ids k _ _ _ _ _ _ _ _ p1 c12 c13 c14 i ++ []
-    lines-ids +--0 = λ i. row-ids k _ _ _ _ _ _ _ _ p1 c12 c13 p4 i ++ []
-    lines-ids +-00 = λ i. row-ids k _ _ _ _ _ _ _ _ p1 c12 p3 p4 i ++ []
+        λ i. row-ids k p1 p2 c23 c24 i
+        ++ (row-ids k p1 c13 c14 c24 i ++ (row-ids (not k) p1 c13 c23 c24 i ++ []))
+    lines-ids ++-0 = λ i. row-ids k p1 p2 c23 p4 i ++ (row-ids (not k) p1 c13 c23 p4 i ++ [])
+    lines-ids +--- = λ i. row-ids k p1 c12 c13 c14 i ++ []
+    lines-ids +--0 = λ i. row-ids k p1 c12 c13 p4 i ++ []
+    lines-ids +-00 = λ i. row-ids k p1 c12 p3 p4 i ++ []
 
   -- what the code writes for a tetrahedron is what its labels say
   pub tetra-is : (wound : Bool) (l : Vertex → Label) → tetraIds n wound t (weights l) ≡ table (map (mapRow (idBy n t)) (map (signed wound) (rowsFor l)))
@@ -151,5 +155,5 @@ pub id-is : (s : Sizes) (t : Tetrahedron) (w : Tetra) → axisAt (w .axis) ≡ t
 unfolding idBy idOf
 id-is s t w p q h (between u v) =
     λ i.
-        if eqb (rank u) (rank v) then h u i
-        else points s + byteAt (h (startOf (codeBetween (p i) (q i) u v) u v) i) (directionOf (codeBetween (p i) (q i) u v))
+    if eqb (rank u) (rank v) then h u i
+    else points s + byteAt (h (startOf (codeBetween (p i) (q i) u v) u v) i) (directionOf (codeBetween (p i) (q i) u v))

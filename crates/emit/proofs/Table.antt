@@ -23,7 +23,7 @@ use Rattle.filling.specs.Fill.{overwritten}
 use Rattle.emit.specs.declared.Cube.{Cube}
 use Rattle.emit.specs.declared.Weights.{Weights}
 use Rattle.emit.specs.Corners.{axisAt, quarterAt, cornerOf}
-use Rattle.emit.specs.Stencils.{tetraIds}
+use Rattle.emit.specs.Stencils.{Room, tetraIds}
 use Rattle.emit.specs.Cubes.{labelIn, weightAt, cubeWeights, quarterOf, quarterWeights, edgeIds, cubeIds}
 use Rattle.emit.specs.Passes.{movedCube, firstCorner, firstCentre, placedIds, runIds, lineIds, layerIds, passIds, stepBy, passOf, blockIds}
 use Rattle.emit.specs.Mesh.{labelsOf, signedRows, rowTotal, signedTable}
@@ -108,7 +108,7 @@ module _ (s : Sizes) (samples : List ℤ) (state : List ℕ) where
     line-table z y =
         (λ i. runIds (is .1 i) samples state (passOf s (points s) a .step) (firstCorner (is .0 i) y z) (firstCentre (is .0 i) y z) (many .0 i))
         ∙ gather-same (placedIds (points s) samples state (passOf s (points s) a .step) (firstCorner s y z) (firstCentre s y z))
-          (λ x. gather tableOf (inCube a z y x)) (below (size s along-x - unit a along-x)) (λ x m. cube-table z y x)
+        (λ x. gather tableOf (inCube a z y x)) (below (size s along-x - unit a along-x)) (λ x m. cube-table z y x)
         ∙ sym (gather-gather tableOf (inCube a z y) (below (size s along-x - unit a along-x)))
       where
         is : (passOf s (points s) a .sizes ≡ s) × (passOf s (points s) a .n ≡ points s)
@@ -123,7 +123,7 @@ module _ (s : Sizes) (samples : List ℤ) (state : List ℕ) where
     layer-table z =
         ap (λ (k : ℕ). gather (lineIds (passOf s (points s) a) samples state z) (below k)) (counts-are s (points s) a .1)
         ∙ gather-same (lineIds (passOf s (points s) a) samples state z) (λ y. gather tableOf (inLine s a z y))
-          (below (size s along-y - unit a along-y)) (λ y m. line-table z y)
+        (below (size s along-y - unit a along-y)) (λ y m. line-table z y)
         ∙ sym (gather-gather tableOf (inLine s a z) (below (size s along-y - unit a along-y)))
 
     pass-table : passIds (passOf s (points s) a) samples state ≡ gather tableOf (inAxis s a)
@@ -131,7 +131,7 @@ module _ (s : Sizes) (samples : List ℤ) (state : List ℕ) where
     pass-table =
         ap (λ (k : ℕ). gather (layerIds (passOf s (points s) a) samples state) (below k)) (counts-are s (points s) a .2)
         ∙ gather-same (layerIds (passOf s (points s) a) samples state) (λ z. gather tableOf (inLayer s a z))
-          (below (size s along-z - unit a along-z)) (λ z m. layer-table z)
+        (below (size s along-z - unit a along-z)) (λ z m. layer-table z)
         ∙ sym (gather-gather tableOf (inLayer s a) (below (size s along-z - unit a along-z)))
 
   pub block-table : blockIds s samples state ≡ signedTable s samples state
@@ -162,3 +162,10 @@ module _ (s : Sizes) (samples : List ℤ) (state : List ℕ) where
       ∙ ap (sets l 0) (block-table s samples state)
       ∙ sets-eq (signedTable s samples state) l 0 (omega (arith, block-long))
       ∙ rw z refl
+
+  -- counting, and the room that a table needs
+  pub count-is : (end : ℕ) → end ≡ 0 + length (blockIds s samples state) → end / 4 ≡ rowTotal s samples state
+  count-is end e = omega (arith, block-long)
+
+  pub write-room : (l : List ℕ) → 4 * rowTotal s samples state ≤ length l → Room l 0 (length (blockIds s samples state))
+  write-room l h = record { fits = λ some. omega (arith, block-long) }

@@ -1,3 +1,7 @@
+use Rattle.emit.proofs.PassLaws.{layer-small, last-axis, along-x-is, along-y-is, along-z-is}
+use Rattle.emit.specs.Corners.{axisAt}
+use mathlib.Core.Path.{sym, ap, _∙_}
+use Prim.Native.Nat.{ℕ}
 use Rattle.emit.specs.Passes.{passOf}
 use Rattle.lattice.proofs.Bounds.{small}
 use native.Mathlib.Nat.{mul-le-mul}
@@ -14,40 +18,37 @@ add-z : tie.Need-add-z
 add-z c = omega arith
 
 mul-z : tie.Need-mul-z
-mul-z c = small 65 65 (omega arith) (omega arith) tt
+mul-z c = record { fits = small 65 65 (omega arith) (omega arith) tt }
 
 step-by-requires : tie.Need-step-by-requires
-step-by-requires c κs = let h = c .before .before .before .pre in let m = mul-le-mul {n₁ = _ + 1} {m₁ = _ + 1} {n₂ = 65} {m₂ = 65} (omega (arith, h .x-high)) (omega (arith, h .y-high)) in omega arith
+step-by-requires c κs = let m = layer-small (c .before .before .before .args .s) (c .before .before .before .pre) in omega (arith, c .before .before .before .pre .x-high)
 
 sub-t12 : tie.Need-sub-t12
 sub-t12 c = omega arith
 
 step-by-requires-2 : tie.Need-step-by-requires-2
-step-by-requires-2 c κs = let h = c .before .before .before .pre in let m = mul-le-mul {n₁ = _ + 1} {m₁ = _ + 1} {n₂ = 65} {m₂ = 65} (omega (arith, h .x-high)) (omega (arith, h .y-high)) in omega arith
+step-by-requires-2 c κs = let m = layer-small (c .before .before .before .args .s) (c .before .before .before .pre) in omega (arith, c .before .before .before .pre .x-high)
 
 sub-t13 : tie.Need-sub-t13
 sub-t13 c = omega arith
 
 mul-high : tie.Need-mul-high
-mul-high c = small 64 64 (c .before .before .before .before .pre .x-high) (c .before .before .before .before .pre .y-high) tt
+mul-high c = record { fits = small 64 64 (c .before .before .before .before .pre .x-high) (c .before .before .before .before .pre .y-high) tt }
 
 step-by-requires-3 : tie.Need-step-by-requires-3
-step-by-requires-3 c κs = let h = c .before .before .before .before .pre in let m = mul-le-mul {n₁ = _ + 1} {m₁ = _ + 1} {n₂ = 65} {m₂ = 65} (omega (arith, h .x-high)) (omega (arith, h .y-high)) in omega arith
+step-by-requires-3 c κs = let m = layer-small (c .before .before .before .before .args .s) (c .before .before .before .before .pre) in omega (arith, c .before .before .before .before .pre .x-high)
 
 sub-t14 : tie.Need-sub-t14
 sub-t14 c = omega arith
 
 returns : tie.Need-returns
-unfolding passOf
-returns c = ?
+returns c = let a = c .before .before .before .before .before .args in along-x-is (a .s) (a .n) _ (c .before .step-by .ensures) ∙ sym (ap (λ (k : ℕ). passOf (a .s) (a .n) (axisAt k)) (c .before .before .match .keys1))
 
 returns-2 : tie.Need-returns-2
-unfolding passOf
-returns-2 c = ?
+returns-2 c = let a = c .before .before .before .before .before .args in along-y-is (a .s) (a .n) _ (c .before .step-by2 .ensures) ∙ sym (ap (λ (k : ℕ). passOf (a .s) (a .n) (axisAt k)) (c .before .before .match .keys2))
 
 returns-3 : tie.Need-returns-3
-unfolding passOf
-returns-3 c = ?
+returns-3 c = let a = c .before .before .before .before .before .before .args in along-z-is (a .s) (a .n) _ (c .before .step-by3 .ensures) ∙ last-axis (a .s) (a .n) _ (c .before .before .before .match .rest .0 .1) (c .before .before .before .match .rest .1)
 
 pub pass-along-spec : {M : Type 1} → statement M
 pass-along-spec = tie.close (tie.spec add-y add-z mul-z step-by-requires sub-t12 step-by-requires-2 sub-t13 mul-high step-by-requires-3 sub-t14 returns returns-2 returns-3)
