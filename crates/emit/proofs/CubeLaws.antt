@@ -1,0 +1,119 @@
+-- Laws of the tetrahedra between a cube and the next one along an axis. Assumes nothing.
+use Prim.Native.Nat.{ℕ, zero, suc, _+_, _*_, _≤_, _<_}
+use native.Mathlib.Omega.{arith}
+use mathlib.Core.Path.{_≡_, refl, sym, ap, _∙_}
+use mathlib.Core.Bool.{Bool}
+use mathlib.Core.List.{List}
+use lib.IntN.{ℤ}
+use lib.ListN.{length}
+use Rattle.basics.specs.Lists.{gather, below}
+use Rattle.stencil.specs.Tetrahedron.{q3}
+use Rattle.stencil.proofs.Sign.{winds}
+use Rattle.emit.specs.declared.Tetra.{Tetra}
+use Rattle.emit.specs.declared.Weights.{Weights}
+use Rattle.emit.specs.declared.Cube.{Cube}
+use Rattle.emit.specs.declared.CubeWeights.{CubeWeights}
+use Rattle.emit.specs.Corners.{most, quarterAt}
+use Rattle.emit.specs.Stencils.{KnownTetra, Small, Room, tetraIds}
+use Rattle.emit.specs.Cubes.{quarterOf, quarterWeights, KnownCube, SmallCube, cubeWeights, edgeIds, cubeIds}
+use Rattle.emit.proofs.StencilLaws.{tetra-most}
+use Rattle.emit.proofs.Written.{bounded}
+
+-- the last edge, for any number that is none of the others
+module _ (e : ℕ) (p : e ≡ 0 → ⊥) (q : e ≡ 1 → ⊥) (r : e ≡ 2 → ⊥) where
+  pub last-quarter : (c : Cube) → quarterOf c 3 ≡ quarterOf c e
+  last-quarter c = go e p q r
+    where
+      go : (e : ℕ) → (e ≡ 0 → ⊥) → (e ≡ 1 → ⊥) → (e ≡ 2 → ⊥) → quarterOf c 3 ≡ quarterOf c e
+      go zero p q r = absurd (p refl)
+      go (suc zero) p q r = absurd (q refl)
+      go (suc (suc zero)) p q r = absurd (r refl)
+      go (suc (suc (suc e))) p q r = refl
+
+  pub last-weights : (w : CubeWeights) → quarterWeights w 3 ≡ quarterWeights w e
+  last-weights w = go e p q r
+    where
+      go : (e : ℕ) → (e ≡ 0 → ⊥) → (e ≡ 1 → ⊥) → (e ≡ 2 → ⊥) → quarterWeights w 3 ≡ quarterWeights w e
+      go zero p q r = absurd (p refl)
+      go (suc zero) p q r = absurd (q refl)
+      go (suc (suc zero)) p q r = absurd (r refl)
+      go (suc (suc (suc e))) p q r = refl
+
+  pub last-winds : winds q3 ≡ winds (quarterAt e)
+  last-winds = go e p q r
+    where
+      go : (e : ℕ) → (e ≡ 0 → ⊥) → (e ≡ 1 → ⊥) → (e ≡ 2 → ⊥) → winds q3 ≡ winds (quarterAt e)
+      go zero p q r = absurd (p refl)
+      go (suc zero) p q r = absurd (q refl)
+      go (suc (suc zero)) p q r = absurd (r refl)
+      go (suc (suc (suc e))) p q r = refl
+
+pub known-as : {m n : ℕ} {c : Cube} → m ≡ n → KnownCube n c → KnownCube m c
+known-as e k =
+    record {
+      axis-in = k .axis-in;
+      low-in = omega arith;
+      high-in = omega arith;
+      mm-in = omega arith;
+      pm-in = omega arith;
+      pp-in = omega arith;
+      mp-in = omega arith;
+    }
+
+pub known-within : {n : ℕ} {c : Cube} → n ≤ most → KnownCube n c → KnownCube most c
+known-within e k =
+    record {
+      axis-in = k .axis-in;
+      low-in = omega arith;
+      high-in = omega arith;
+      mm-in = omega arith;
+      pm-in = omega arith;
+      pp-in = omega arith;
+      mp-in = omega arith;
+    }
+
+quarter-known : (n : ℕ) (c : Cube) → KnownCube n c → (e : ℕ) → KnownTetra n (quarterOf c e)
+quarter-known n c k zero =
+    record { kind = record { axis-in = k .axis-in; edge-in = omega arith }; a-in = k .mm-in; b-in = k .pm-in; c-in = k .low-in; d-in = k .high-in }
+quarter-known n c k (suc zero) =
+    record { kind = record { axis-in = k .axis-in; edge-in = omega arith }; a-in = k .pm-in; b-in = k .pp-in; c-in = k .low-in; d-in = k .high-in }
+quarter-known n c k (suc (suc zero)) =
+    record { kind = record { axis-in = k .axis-in; edge-in = omega arith }; a-in = k .mp-in; b-in = k .pp-in; c-in = k .low-in; d-in = k .high-in }
+quarter-known n c k (suc (suc (suc e))) =
+    record { kind = record { axis-in = k .axis-in; edge-in = omega arith }; a-in = k .mm-in; b-in = k .mp-in; c-in = k .low-in; d-in = k .high-in }
+
+quarter-small : (w : CubeWeights) → SmallCube w → (e : ℕ) → Small (quarterWeights w e)
+quarter-small w k zero = record { a-small = k .mm-small; b-small = k .pm-small; c-small = k .low-small; d-small = k .high-small }
+quarter-small w k (suc zero) = record { a-small = k .pm-small; b-small = k .pp-small; c-small = k .low-small; d-small = k .high-small }
+quarter-small w k (suc (suc zero)) = record { a-small = k .mp-small; b-small = k .pp-small; c-small = k .low-small; d-small = k .high-small }
+quarter-small w k (suc (suc (suc e))) = record { a-small = k .mm-small; b-small = k .mp-small; c-small = k .low-small; d-small = k .high-small }
+
+-- one edge of the turn, as the code has it
+module _ (n : ℕ) (c : Cube) (w : CubeWeights) (e : ℕ) (wound : Bool) (t : Tetra) (v : Weights) (p : wound ≡ winds (quarterAt e)) (q : t ≡ quarterOf c e)
+    (r : v ≡ quarterWeights w e) where
+  pub edge-is : tetraIds n wound t v ≡ edgeIds n c w e
+  unfolding edgeIds
+  edge-is = λ i. tetraIds n (p i) (q i) (r i)
+
+  pub edge-known : KnownCube n c → KnownTetra n t
+  edge-known k = rw q (quarter-known n c k e)
+
+  pub edge-small : SmallCube w → Small v
+  edge-small k = rw r (quarter-small w k e)
+
+pub edge-most : (n : ℕ) (c : Cube) (w : CubeWeights) (e : ℕ) → length (edgeIds n c w e) ≤ 12
+unfolding edgeIds
+edge-most n c w e = tetra-most n (winds (quarterAt e)) (quarterOf c e) (quarterWeights w e)
+
+pub cube-as : (n : ℕ) (samples : List ℤ) (state : List ℕ) (c : Cube) (w : CubeWeights) → w ≡ cubeWeights samples state c
+    → gather (edgeIds n c w) (below 4) ≡ cubeIds n samples state c
+unfolding cubeIds
+cube-as n samples state c w e = ap (λ (x : CubeWeights). gather (edgeIds n c x) (below 4)) e
+
+pub cube-room : (n : ℕ) (samples : List ℤ) (state : List ℕ) (c : Cube) (w : CubeWeights) (l : List ℕ) (i : ℕ) → w ≡ cubeWeights samples state c
+    → Room l i (length (cubeIds n samples state c)) → Room l i (length (gather (edgeIds n c w) (below 4)))
+cube-room n samples state c w l i e r = rw (cube-as n samples state c w e) r
+
+pub cube-most : (n : ℕ) (samples : List ℤ) (state : List ℕ) (c : Cube) → length (cubeIds n samples state c) ≤ 48
+unfolding cubeIds
+cube-most n samples state c = bounded (edgeIds n c (cubeWeights samples state c)) 12 4 (λ j h. edge-most n c (cubeWeights samples state c) j) 4 (omega arith)

@@ -1,0 +1,22 @@
+use Rattle.emit.proofs.CubeLaws.{last-weights}
+use Rattle.emit.specs.Cubes.{quarterWeights}
+use mathlib.Core.Path.{sym, ap}
+use native.Mathlib.Omega.{arith}
+use borrow.Author.Needs.{needs}
+use Rattle.emit.proofs.cubes.quarter_weights.Statement.{statement}
+use Rattle.emit.proofs.cubes.quarter_weights.Tie as tie
+
+returns : tie.Need-returns
+returns c = sym (ap (quarterWeights _) (c .match .keys1))
+
+returns-2 : tie.Need-returns-2
+returns-2 c = sym (ap (quarterWeights _) (c .match .keys2))
+
+returns-3 : tie.Need-returns-3
+returns-3 c = sym (ap (quarterWeights _) (c .match .keys3))
+
+returns-4 : tie.Need-returns-4
+returns-4 c = last-weights _ (c .match .rest .0 .0 .1) (c .match .rest .0 .1) (c .match .rest .1) _
+
+pub quarter-weights-spec : {M : Type 1} → statement M
+quarter-weights-spec = tie.close (tie.spec returns returns-2 returns-3 returns-4)

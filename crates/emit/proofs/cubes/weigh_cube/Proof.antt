@@ -1,0 +1,30 @@
+use Rattle.emit.specs.Cubes.{cubeWeights}
+use native.Mathlib.Omega.{arith}
+use borrow.Author.Needs.{needs}
+use Rattle.emit.proofs.cubes.weigh_cube.Statement.{statement}
+use Rattle.emit.proofs.cubes.weigh_cube.Tie as tie
+
+weigh-requires : tie.Need-weigh-requires
+weigh-requires c κs = let a = c .before .pre in (a .0 .low-in, omega (arith, a .0 .low-in, a .1))
+
+weigh-requires-2 : tie.Need-weigh-requires-2
+weigh-requires-2 c κs = let a = c .before .before .pre in (a .0 .high-in, omega (arith, a .0 .high-in, a .1))
+
+weigh-requires-3 : tie.Need-weigh-requires-3
+weigh-requires-3 c κs = let a = c .before .before .before .pre in (a .0 .mm-in, omega (arith, a .0 .mm-in, a .1))
+
+weigh-requires-4 : tie.Need-weigh-requires-4
+weigh-requires-4 c κs = let a = c .before .before .before .before .pre in (a .0 .pm-in, omega (arith, a .0 .pm-in, a .1))
+
+weigh-requires-5 : tie.Need-weigh-requires-5
+weigh-requires-5 c κs = let a = c .before .before .before .before .before .pre in (a .0 .pp-in, omega (arith, a .0 .pp-in, a .1))
+
+weigh-requires-6 : tie.Need-weigh-requires-6
+weigh-requires-6 c κs = let a = c .before .before .before .before .before .before .pre in (a .0 .mp-in, omega (arith, a .0 .mp-in, a .1))
+
+returns : tie.Need-returns
+unfolding cubeWeights
+returns c = (λ i. record { low = c .before .before .before .before .before .weigh .ensures .0 i; high = c .before .before .before .before .weigh2 .ensures .0 i; mm = c .before .before .before .weigh3 .ensures .0 i; pm = c .before .before .weigh4 .ensures .0 i; pp = c .before .weigh5 .ensures .0 i; mp = c .weigh6 .ensures .0 i }, record { low-small = c .before .before .before .before .before .weigh .ensures .1; high-small = c .before .before .before .before .weigh2 .ensures .1; mm-small = c .before .before .before .weigh3 .ensures .1; pm-small = c .before .before .weigh4 .ensures .1; pp-small = c .before .weigh5 .ensures .1; mp-small = c .weigh6 .ensures .1 })
+
+pub weigh-cube-spec : {M : Type 1} → statement M
+weigh-cube-spec = tie.close (tie.spec weigh-requires weigh-requires-2 weigh-requires-3 weigh-requires-4 weigh-requires-5 weigh-requires-6 returns)

@@ -1,0 +1,41 @@
+use Rattle.emit.proofs.CubeLaws.{last-winds}
+use Rattle.emit.specs.Corners.{quarterAt}
+use Rattle.stencil.proofs.Sign.{winds}
+use Rattle.geometry.specs.Volume.{sixVolume, triple, dot, cross}
+use mathlib.Core.Path.{sym, ap, _∙_}
+use Prim.Native.Nat.{ℕ}
+use native.Mathlib.Omega.{arith}
+use borrow.Author.Needs.{needs}
+use Rattle.emit.proofs.cubes.winding.Statement.{statement}
+use Rattle.emit.proofs.cubes.winding.Tie as tie
+
+winds-with-requires : tie.Need-winds-with-requires
+winds-with-requires c κs = search needs
+
+winds-with-requires-2 : tie.Need-winds-with-requires-2
+winds-with-requires-2 c κs = search needs
+
+winds-with-requires-3 : tie.Need-winds-with-requires-3
+winds-with-requires-3 c κs = search needs
+
+winds-with-requires-4 : tie.Need-winds-with-requires-4
+winds-with-requires-4 c κs = search needs
+
+returns : tie.Need-returns
+unfolding sixVolume triple dot cross
+returns c = c .winds-with .ensures ∙ sym (ap (λ (e : ℕ). winds (quarterAt e)) (c .before .match .keys1))
+
+returns-2 : tie.Need-returns-2
+unfolding sixVolume triple dot cross
+returns-2 c = c .winds-with2 .ensures ∙ sym (ap (λ (e : ℕ). winds (quarterAt e)) (c .before .match .keys2))
+
+returns-3 : tie.Need-returns-3
+unfolding sixVolume triple dot cross
+returns-3 c = c .winds-with3 .ensures ∙ sym (ap (λ (e : ℕ). winds (quarterAt e)) (c .before .match .keys3))
+
+returns-4 : tie.Need-returns-4
+unfolding sixVolume triple dot cross
+returns-4 c = c .winds-with4 .ensures ∙ last-winds _ (c .before .match .rest .0 .0 .1) (c .before .match .rest .0 .1) (c .before .match .rest .1)
+
+pub winding-spec : {M : Type 1} → statement M
+winding-spec = tie.close (tie.spec winds-with-requires winds-with-requires-2 winds-with-requires-3 winds-with-requires-4 returns returns-2 returns-3 returns-4)

@@ -1,0 +1,217 @@
+// The lattice tetrahedra between a cube and the next one along an axis: the two centres, the four
+// corners of the shared face in their turn, and the weights of their labels, read once.
+use crate::Cube;
+use crate::CubeWeights;
+use crate::Tetra;
+use crate::Weights;
+use crate::writing;
+use places::Place;
+use places::volume;
+ghost use mathlib.Core.Path.{_≡_};
+ghost use Prim.Native.Nat.{_+_, _<_, _≤_};
+ghost use lib.ListN.{length};
+ghost use lib.Seq.{sets};
+ghost use Rattle.moving.specs.Label.{labelOf};
+ghost use Rattle.stencil.proofs.Sign.{winds};
+ghost use Rattle.places.specs.Places.{placeAt, InBox, placeBox};
+ghost use Rattle.emit.specs.Corners.{most, quarterAt};
+ghost use Rattle.emit.specs.Picks.{weight};
+ghost use Rattle.emit.specs.Stencils.{Room, rowsMost};
+ghost use Rattle.emit.specs.Cubes.{weightAt, windsWith, cubeWeights, quarterOf, quarterWeights, KnownCube, SmallCube, cubeIds};
+
+// The weight of a sample's sign.
+fn weight_of(x: i16) -> usize
+    ensures { λ r. ⌜ r ≡ weight (labelOf x) ⌝ }
+    ensures { λ r. ⌜ r ≤ 5 ⌝ }
+{
+    if 0 < x {
+        return 5;
+    }
+    if x < 0 {
+        return 1;
+    }
+    0
+}
+
+// The weight of a point's label: zero once it has moved.
+fn weigh(samples: &[i16], state: &[u8], p: usize) -> usize
+    requires { ⌜ (p < length (now samples)) × (p < length (now state)) ⌝ }
+    ensures { λ r. ⌜ r ≡ weightAt (now (samples .entry)) (now (state .entry)) p ⌝ }
+    ensures { λ r. ⌜ r ≤ 5 ⌝ }
+{
+    if state[p] != 0 {
+        return 0;
+    }
+    weight_of(samples[p])
+}
+
+fn weigh_cube(samples: &[i16], state: &[u8], c: Cube) -> CubeWeights
+    requires { ⌜ KnownCube (length (now samples)) c ⌝ }
+    requires { ⌜ length (now state) ≡ length (now samples) ⌝ }
+    ensures { λ r. ⌜ r ≡ cubeWeights (now (samples .entry)) (now (state .entry)) c ⌝ }
+    ensures { λ r. ⌜ SmallCube r ⌝ }
+{
+    let low = weigh(samples, state, c.low);
+    let high = weigh(samples, state, c.high);
+    let mm = weigh(samples, state, c.mm);
+    let pm = weigh(samples, state, c.pm);
+    let pp = weigh(samples, state, c.pp);
+    let mp = weigh(samples, state, c.mp);
+    CubeWeights {
+        low,
+        high,
+        mm,
+        pm,
+        pp,
+        mp,
+    }
+}
+
+// The tetrahedron of an edge of the turn, its corners ascending.
+fn quarter(c: Cube, e: usize) -> Tetra
+    ensures { λ r. ⌜ r ≡ quarterOf c e ⌝ }
+{
+    match e {
+        0 => Tetra {
+            axis: c.axis,
+            edge: 0,
+            a: c.mm,
+            b: c.pm,
+            c: c.low,
+            d: c.high,
+        },
+        1 => Tetra {
+            axis: c.axis,
+            edge: 1,
+            a: c.pm,
+            b: c.pp,
+            c: c.low,
+            d: c.high,
+        },
+        2 => Tetra {
+            axis: c.axis,
+            edge: 2,
+            a: c.mp,
+            b: c.pp,
+            c: c.low,
+            d: c.high,
+        },
+        _ => Tetra {
+            axis: c.axis,
+            edge: 3,
+            a: c.mm,
+            b: c.mp,
+            c: c.low,
+            d: c.high,
+        },
+    }
+}
+
+fn quarter_weights(w: CubeWeights, e: usize) -> Weights
+    ensures { λ r. ⌜ r ≡ quarterWeights w e ⌝ }
+{
+    match e {
+        0 => Weights {
+            a: w.mm,
+            b: w.pm,
+            c: w.low,
+            d: w.high,
+        },
+        1 => Weights {
+            a: w.pm,
+            b: w.pp,
+            c: w.low,
+            d: w.high,
+        },
+        2 => Weights {
+            a: w.mp,
+            b: w.pp,
+            c: w.low,
+            d: w.high,
+        },
+        _ => Weights {
+            a: w.mm,
+            b: w.mp,
+            c: w.low,
+            d: w.high,
+        },
+    }
+}
+
+// A tetrahedron of two corners of the shared face and the two centres, in this order, winds
+// positively: a signed triple product, in places seen along the axis, the next one and the one
+// after, from a cube at 0.
+fn winds_with(first: Place, second: Place) -> bool
+    requires { ⌜ (InBox placeBox first) × (InBox placeBox second) ⌝ }
+    ensures { λ r. ⌜ r ≡ windsWith (placeAt first) (placeAt second) ⌝ }
+{
+    let lower = Place {
+        x: 256,
+        y: 256,
+        z: 256,
+    };
+    let upper = Place {
+        x: 768,
+        y: 256,
+        z: 256,
+    };
+    let v = volume::six_volume(first, second, lower, upper);
+    0 < v
+}
+
+// The four corners of a lattice tetrahedron, ascending, wind positively: the same along every axis
+// and in every cube.
+fn winding(e: usize) -> bool
+    requires { ⌜ e < 4 ⌝ }
+    ensures { λ r. ⌜ r ≡ winds (quarterAt e) ⌝ }
+{
+    let mm = Place { x: 512, y: 0, z: 0 };
+    let pm = Place {
+        x: 512,
+        y: 512,
+        z: 0,
+    };
+    let pp = Place {
+        x: 512,
+        y: 512,
+        z: 512,
+    };
+    let mp = Place {
+        x: 512,
+        y: 0,
+        z: 512,
+    };
+    match e {
+        0 => winds_with(mm, pm),
+        1 => winds_with(pm, pp),
+        2 => winds_with(mp, pp),
+        _ => winds_with(mm, mp),
+    }
+}
+
+pub fn write_cube(
+    rows: &mut [u32],
+    at: usize,
+    n: usize,
+    samples: &[i16],
+    state: &[u8],
+    c: Cube,
+) -> usize
+    requires { ⌜ n ≤ most ⌝ }
+    requires { ⌜ (length (now samples) ≡ n) × (length (now state) ≡ n) ⌝ }
+    requires { ⌜ KnownCube n c ⌝ }
+    requires { ⌜ at + 48 ≤ rowsMost ⌝ }
+    requires { ⌜ Room (now rows) at (length (cubeIds n (now samples) (now state) c)) ⌝ }
+    ensures { λ r. ⌜ r ≡ at + length (cubeIds n (now (samples .entry)) (now (state .entry)) c) ⌝ }
+    ensures { λ r. ⌜ now (rows .exit) ≡ sets (now (rows .entry)) at (cubeIds n (now (samples .entry)) (now (state .entry)) c) ⌝ }
+{
+    let w = weigh_cube(samples, state, c);
+    let mut to = at;
+    for e in 0..4 {
+        let wound = winding(e);
+        let t = quarter(c, e);
+        let labels = quarter_weights(w, e);
+        to = writing::write_tetra(rows, to, n, wound, t, labels);
+    }
+    to
+}

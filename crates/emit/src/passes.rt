@@ -1,0 +1,225 @@
+// All rows of a block: for each axis, each cube that has a next one along it, by strides.
+use crate::Cube;
+use crate::Pass;
+use crate::cubes;
+use lattice::Sizes;
+use lattice::counts;
+use lattice::numbers;
+ghost use mathlib.Core.Path.{_≡_};
+ghost use Prim.Native.Nat.{_+_, _*_, _<_, _≤_};
+ghost use lib.ListN.{length};
+ghost use lib.Seq.{sets};
+ghost use Rattle.lattice.specs.Counts.{Sized, points};
+ghost use Rattle.emit.specs.Stencils.{Room, rowsMost};
+ghost use Rattle.emit.specs.Passes.{movedCube, KnownRun, InPass, Tables, runIds, lineIds, layerIds, passIds, lineMost, layerMost, passMost, stepBy, passOf, blockIds};
+ghost use Rattle.filling.specs.Fill.{overwritten};
+ghost use Rattle.emit.specs.Corners.{most, axisAt};
+ghost use Rattle.emit.specs.Mesh.{rowTotal, signedTable};
+ghost use Rattle.emit.specs.Cubes.{KnownCube};
+
+// The six points, for a cube with this lowest corner and this centre.
+fn cube_at(step: Cube, corner: usize, centre: usize) -> Cube
+    requires { ⌜ KnownCube most (movedCube step corner centre) ⌝ }
+    ensures { λ r. ⌜ r ≡ movedCube step corner centre ⌝ }
+{
+    Cube {
+        axis: step.axis,
+        low: centre + step.low,
+        high: centre + step.high,
+        mm: corner + step.mm,
+        pm: corner + step.pm,
+        pp: corner + step.pp,
+        mp: corner + step.mp,
+    }
+}
+
+// So many cubes side by side along x, from the one with this lowest corner and this centre on.
+fn write_run(
+    rows: &mut [u32],
+    at: usize,
+    n: usize,
+    samples: &[i16],
+    state: &[u8],
+    step: Cube,
+    corner: usize,
+    centre: usize,
+    count: usize,
+) -> usize
+    requires { ⌜ n ≤ most ⌝ }
+    requires { ⌜ (length (now samples) ≡ n) × (length (now state) ≡ n) ⌝ }
+    requires { ⌜ KnownRun n step corner centre count ⌝ }
+    requires { ⌜ at + lineMost ≤ rowsMost ⌝ }
+    requires { ⌜ Room (now rows) at (length (runIds n (now samples) (now state) step corner centre count)) ⌝ }
+    ensures { λ r. ⌜ r ≡ at + length (runIds n (now (samples .entry)) (now (state .entry)) step corner centre count) ⌝ }
+    ensures { λ r. ⌜ now (rows .exit) ≡ sets (now (rows .entry)) at (runIds n (now (samples .entry)) (now (state .entry)) step corner centre count) ⌝ }
+{
+    let mut to = at;
+    for x in 0..count {
+        let c = cube_at(step, corner + x, centre + x);
+        to = cubes::write_cube(rows, to, n, samples, state, c);
+    }
+    to
+}
+
+fn write_line(
+    rows: &mut [u32],
+    at: usize,
+    samples: &[i16],
+    state: &[u8],
+    p: Pass,
+    y: usize,
+    z: usize,
+) -> usize
+    requires { ⌜ InPass p ⌝ }
+    requires { ⌜ Tables p (now samples) (now state) ⌝ }
+    requires { ⌜ (y < p .my) × (z < p .mz) ⌝ }
+    requires { ⌜ at + lineMost ≤ rowsMost ⌝ }
+    requires { ⌜ Room (now rows) at (length (lineIds p (now samples) (now state) z y)) ⌝ }
+    ensures { λ r. ⌜ r ≡ at + length (lineIds p (now (samples .entry)) (now (state .entry)) z y) ⌝ }
+    ensures { λ r. ⌜ now (rows .exit) ≡ sets (now (rows .entry)) at (lineIds p (now (samples .entry)) (now (state .entry)) z y) ⌝ }
+{
+    let s = p.sizes;
+    let step = p.step;
+    let corner = numbers::linear(s.nx + 1, s.ny + 1, 0, y, z);
+    let first = counts::corner_count(s);
+    let centre = first + numbers::linear(s.nx, s.ny, 0, y, z);
+    write_run(rows, at, p.n, samples, state, step, corner, centre, p.mx)
+}
+
+fn write_layer(
+    rows: &mut [u32],
+    at: usize,
+    samples: &[i16],
+    state: &[u8],
+    p: Pass,
+    z: usize,
+) -> usize
+    requires { ⌜ InPass p ⌝ }
+    requires { ⌜ Tables p (now samples) (now state) ⌝ }
+    requires { ⌜ z < p .mz ⌝ }
+    requires { ⌜ at + layerMost ≤ rowsMost ⌝ }
+    requires { ⌜ Room (now rows) at (length (layerIds p (now samples) (now state) z)) ⌝ }
+    ensures { λ r. ⌜ r ≡ at + length (layerIds p (now (samples .entry)) (now (state .entry)) z) ⌝ }
+    ensures { λ r. ⌜ now (rows .exit) ≡ sets (now (rows .entry)) at (layerIds p (now (samples .entry)) (now (state .entry)) z) ⌝ }
+{
+    let mut to = at;
+    for y in 0..p.my {
+        to = write_line(rows, to, samples, state, p, y, z);
+    }
+    to
+}
+
+fn write_pass(rows: &mut [u32], at: usize, samples: &[i16], state: &[u8], p: Pass) -> usize
+    requires { ⌜ InPass p ⌝ }
+    requires { ⌜ Tables p (now samples) (now state) ⌝ }
+    requires { ⌜ at + passMost ≤ rowsMost ⌝ }
+    requires { ⌜ Room (now rows) at (length (passIds p (now samples) (now state))) ⌝ }
+    ensures { λ r. ⌜ r ≡ at + length (passIds p (now (samples .entry)) (now (state .entry))) ⌝ }
+    ensures { λ r. ⌜ now (rows .exit) ≡ sets (now (rows .entry)) at (passIds p (now (samples .entry)) (now (state .entry))) ⌝ }
+{
+    let mut to = at;
+    for z in 0..p.mz {
+        to = write_layer(rows, to, samples, state, p, z);
+    }
+    to
+}
+
+// The six points of a cube, counted from its lowest corner and its centre, by the strides of the
+// corners along the axis, the next one and the one after.
+fn step_by(axis: usize, high: usize, u: usize, v: usize, w: usize) -> Cube
+    requires { ⌜ (u ≤ 4225) × (v ≤ 4225) × (w ≤ 4225) ⌝ }
+    ensures { λ r. ⌜ r ≡ stepBy axis high u v w ⌝ }
+{
+    Cube {
+        axis,
+        low: 0,
+        high,
+        mm: u,
+        pm: u + v,
+        pp: u + v + w,
+        mp: u + w,
+    }
+}
+
+// The pass along an axis.
+fn pass_along(s: Sizes, n: usize, axis: usize) -> Pass
+    requires { ⌜ Sized s ⌝ }
+    ensures { λ r. ⌜ r ≡ passOf s n (axisAt axis) ⌝ }
+{
+    let y = s.nx + 1;
+    let z = y * (s.ny + 1);
+    match axis {
+        0 => {
+            let step = step_by(0, 1, 1, y, z);
+            Pass {
+                sizes: s,
+                n,
+                step,
+                mx: s.nx - 1,
+                my: s.ny,
+                mz: s.nz,
+            }
+        }
+        1 => {
+            let step = step_by(1, s.nx, y, z, 1);
+            Pass {
+                sizes: s,
+                n,
+                step,
+                mx: s.nx,
+                my: s.ny - 1,
+                mz: s.nz,
+            }
+        }
+        _ => {
+            let high = s.nx * s.ny;
+            let step = step_by(2, high, z, 1, y);
+            Pass {
+                sizes: s,
+                n,
+                step,
+                mx: s.nx,
+                my: s.ny,
+                mz: s.nz - 1,
+            }
+        }
+    }
+}
+
+// All rows of a block, from the table's start on; the index after them.
+fn write_all(rows: &mut [u32], s: Sizes, samples: &[i16], state: &[u8]) -> usize
+    requires { ⌜ Sized s ⌝ }
+    requires { ⌜ (length (now samples) ≡ points s) × (length (now state) ≡ points s) ⌝ }
+    requires { ⌜ Room (now rows) 0 (length (blockIds s (now samples) (now state))) ⌝ }
+    ensures { λ r. ⌜ r ≡ 0 + length (blockIds s (now (samples .entry)) (now (state .entry))) ⌝ }
+    ensures { λ r. ⌜ now (rows .exit) ≡ sets (now (rows .entry)) 0 (blockIds s (now (samples .entry)) (now (state .entry))) ⌝ }
+{
+    let n = counts::point_count(s);
+    let along_x = pass_along(s, n, 0);
+    let along_y = pass_along(s, n, 1);
+    let along_z = pass_along(s, n, 2);
+    let x = write_pass(rows, 0, samples, state, along_x);
+    let y = write_pass(rows, x, samples, state, along_y);
+    write_pass(rows, y, samples, state, along_z)
+}
+
+// How many rows a block has: they are written into an empty table, which only counts them.
+pub fn count_rows(s: Sizes, samples: &[i16], state: &[u8]) -> usize
+    requires { ⌜ Sized s ⌝ }
+    requires { ⌜ (length (now samples) ≡ points s) × (length (now state) ≡ points s) ⌝ }
+    ensures { λ r. ⌜ r ≡ rowTotal s (now (samples .entry)) (now (state .entry)) ⌝ }
+{
+    let mut none = [0u32; 1];
+    let end = write_all(&mut none[..0], s, samples, state);
+    end / 4
+}
+
+// All rows of a block, written over the first entries of the row table.
+pub fn write_rows(s: Sizes, samples: &[i16], state: &[u8], rows: &mut [u32])
+    requires { ⌜ Sized s ⌝ }
+    requires { ⌜ (length (now samples) ≡ points s) × (length (now state) ≡ points s) ⌝ }
+    requires { ⌜ 4 * rowTotal s (now samples) (now state) ≤ length (now rows) ⌝ }
+    ensures { λ _. ⌜ now (rows .exit) ≡ overwritten (signedTable s (now (samples .entry)) (now (state .entry))) (now (rows .entry)) ⌝ }
+{
+    write_all(rows, s, samples, state);
+}
