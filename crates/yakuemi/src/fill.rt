@@ -3,35 +3,16 @@ use audit::Fault;
 use filling::Filled;
 use lattice::Sizes;
 use lattice::counts;
-ghost use Prim.Native.Nat.{ℕ, _+_, _*_, _≤_};
-ghost use mathlib.Core.List.{List};
 ghost use mathlib.Core.Path.{_≡_};
 ghost use lib.ListN.{length};
-ghost use Rattle.lattice.specs.Counts.{Sized, points};
+ghost use Rattle.lattice.specs.Counts.{points};
 ghost use Rattle.moving.specs.Block.{blockOf, Tabled};
-ghost use Rattle.moving.specs.Moving.{stateOf};
 ghost use Rattle.geometry.specs.Place.{placeOf};
-ghost use Rattle.filling.specs.Fill.{fill, overwritten};
-ghost use Rattle.filling.specs.Mesh.{rowsWith, meshOf, table};
+ghost use Rattle.filling.specs.Fill.{fill};
 ghost use Rattle.filling.specs.Demand.{Conforms, OnSkin, rowsRead};
 ghost use Rattle.filling.proofs.Accepted.{Accepted};
 ghost use Rattle.yakuemi.specs.Measures.{sizes};
 ghost use Rattle.yakuemi.specs.Fills.{Fills};
-
-fn count_rows(s: Sizes, samples: &[i16], state: &[u8]) -> usize
-    requires { ⌜ Sized s ⌝ }
-    requires { ⌜ (length (now samples) ≡ points s) × (length (now state) ≡ points s) ⌝ }
-    ensures { λ r. ⌜ ((cuts : List ℕ) → r ≡ length (rowsWith (blockOf s (now (samples .entry)) cuts) (now (state .entry)))) ⌝ }
-{
-    0
-}
-
-fn write_rows(s: Sizes, samples: &[i16], cuts: &[u8], state: &[u8], rows: &mut [u32])
-    requires { ⌜ Accepted (blockOf s (now samples) (now cuts)) ⌝ }
-    requires { ⌜ now state ≡ stateOf (blockOf s (now samples) (now cuts)) ⌝ }
-    requires { ⌜ 4 * length (meshOf (blockOf s (now samples) (now cuts))) ≤ length (now rows) ⌝ }
-    ensures { λ r. ⌜ now (rows .exit) ≡ overwritten (table (meshOf (blockOf s (now (samples .entry)) (now (cuts .entry))))) (now (rows .entry)) ⌝ }
-{}
 
 fn refused(number: u32, place: usize) -> Filled
     ensures { λ r. ⌜ r ≡ record { number = number; rows = 0; moved = 0; place = place } ⌝ }
@@ -58,7 +39,7 @@ fn fill_accepted(
     ensures { λ r. ⌜ Fills (blockOf s (now (samples .entry)) (now (cuts .entry))) (now (state .entry)) (now (rows .entry)) r (now (state .exit)) (now (rows .exit)) ⌝ }
 {
     let moved = warp::moves::warp(s, samples, cuts, state);
-    let count = count_rows(s, samples, state);
+    let count = emit::passes::count_rows(s, samples, state);
     if rows.len() / 4 < count {
         return Filled {
             number: 10,
@@ -67,7 +48,7 @@ fn fill_accepted(
             place: 0,
         };
     }
-    write_rows(s, samples, cuts, state, rows);
+    emit::passes::write_rows(s, samples, state, rows);
     Filled {
         number: 0,
         rows: count as u64,

@@ -1,11 +1,13 @@
 -- Points moved, rows counted, and written where they fit. Assumes nothing.
-use native.Mathlib.Omega.{arith}
 use Prim.Native.Nat.{ℕ}
-use mathlib.Core.Path.{ap, _∙_}
+use mathlib.Core.Path.{sym, ap, _∙_}
 use mathlib.Core.List.{List}
-use lib.ListN.{length}
 use Rattle.moving.specs.Block.{blockOf}
-use Rattle.filling.specs.Mesh.{rowsWith}
+use Rattle.moving.specs.Moving.{stateOf}
+use Rattle.filling.specs.Fill.{overwritten}
+use Rattle.mesh.proofs.Bridge.{sound}
+use Rattle.emit.specs.Mesh.{rowTotal, signedTable}
+use Rattle.emit.proofs.Oriented.{rows-length, rows-are}
 use Rattle.yakuemi.proofs.Written.{too-short, long-enough}
 use borrow.Author.Needs.{needs}
 use Rattle.yakuemi.proofs.fill.fill_accepted.Statement.{statement}
@@ -24,13 +26,10 @@ returns : tie.Need-returns
 returns c =
     let a = c .before .before .before .before .before .before .before .before .before .before in
     let b = blockOf (a .args .s) (a .args .samples .now) (a .args .cuts .now) in
-    too-short b (a .args .state .now) (a .args .rows .now) (a .pre .0) (a .pre .1) _ _ _ (c .before .count-rows .ensures (a .args .cuts .now) ∙ ap (λ (s : List ℕ). length (rowsWith b s)) (c .before .before .before .before .before .warp .ensures .0)) (c .before .before .before .before .before .warp .ensures .1) (c .before .before .before .before .before .warp .ensures .0) (c .if1 .taken)
+    too-short b (a .args .state .now) (a .args .rows .now) (a .pre .0) (a .pre .1) _ _ _ (c .before .count-rows .ensures ∙ ap (rowTotal (a .args .s) (a .args .samples .now)) (c .before .before .before .before .before .warp .ensures .0) ∙ sym (rows-length b (stateOf b))) (c .before .before .before .before .before .warp .ensures .1) (c .before .before .before .before .before .warp .ensures .0) (c .if1 .taken)
 
 write-rows-requires : tie.Need-write-rows-requires
-write-rows-requires c κs =
-    let a = c .before .before .before .before .before .before .before .before .before .before .before .before in
-    let b = blockOf (a .args .s) (a .args .samples .now) (a .args .cuts .now) in
-    (a .pre .0, (c .before .before .before .before .before .before .before .warp .ensures .0, omega (arith, c .before .before .if1 .left, (c .before .before .before .count-rows .ensures (a .args .cuts .now) ∙ ap (λ (s : List ℕ). length (rowsWith b s)) (c .before .before .before .before .before .before .before .warp .ensures .0)))))
+write-rows-requires c κs = search needs
 
 same-length-2 : tie.Need-same-length-2
 same-length-2 c = search needs
@@ -42,7 +41,9 @@ returns-2 : tie.Need-returns-2
 returns-2 c =
     let a = c .before .before .before .before .before .before .before .before .before .before .before .before .before .before .before in
     let b = blockOf (a .args .s) (a .args .samples .now) (a .args .cuts .now) in
-    long-enough b (a .args .state .now) (a .args .rows .now) (a .pre .0) (a .pre .1) _ _ _ (c .before .before .before .before .before .before .count-rows .ensures (a .args .cuts .now) ∙ ap (λ (s : List ℕ). length (rowsWith b s)) (c .before .before .before .before .before .before .before .before .before .before .warp .ensures .0)) (c .before .before .before .before .before .before .before .before .before .before .warp .ensures .1) (c .before .before .before .before .before .before .before .before .before .before .warp .ensures .0) _ (c .before .before .write-rows .ensures) (c .before .before .before .before .before .if1 .left)
+    let rows = rows-are b (stateOf b) (sound b (a .pre .0) (λ o. c .before .before .before .before .before .before .before .before .before .before .before .before .before .before .shared-slice-known .given o .fits)) in
+    long-enough b (a .args .state .now) (a .args .rows .now) (a .pre .0) (a .pre .1) _ _ _ (c .before .before .before .before .before .before .count-rows .ensures ∙ ap (rowTotal (a .args .s) (a .args .samples .now)) (c .before .before .before .before .before .before .before .before .before .before .warp .ensures .0) ∙ sym (rows-length b (stateOf b))) (c .before .before .before .before .before .before .before .before .before .before .warp .ensures .1) (c .before .before .before .before .before .before .before .before .before .before .warp .ensures .0) _
+    (c .before .before .write-rows .ensures ∙ ap (λ (l : List ℕ). overwritten l (a .args .rows .now)) (ap (signedTable (a .args .s) (a .args .samples .now)) (c .before .before .before .before .before .before .before .before .before .before .warp .ensures .0) ∙ sym rows)) (c .before .before .before .before .before .if1 .left)
 
 pub fill-accepted-spec : {M : Type 1} → statement M
 fill-accepted-spec =
