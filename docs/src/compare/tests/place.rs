@@ -17,7 +17,7 @@ fn every_id_of_filled_blocks() {
     let mut placed = 0;
     for _ in 0..300 {
         let call = Call::good(any_block(&mut random, 4), 0);
-        let outcome = call.run(reference::fill::fill, &mut random);
+        let outcome = call.run(compare::fill, &mut random);
         let block = &call.block;
         let ids = 8 * block.samples.len() as u32;
         for id in (0..ids + 3).chain([u32::MAX]) {

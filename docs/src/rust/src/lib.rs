@@ -41,6 +41,20 @@ pub mod raw {
         extern "C" {
             pub fn yakuemi_measures(nx: u32, ny: u32, nz: u32) -> Measures;
             #[allow(clippy::too_many_arguments)]
+            pub fn yakuemi_fill(
+                nx: u32,
+                ny: u32,
+                nz: u32,
+                samples: *const i16,
+                samples_len: usize,
+                cuts: *const u8,
+                cuts_len: usize,
+                state: *mut u8,
+                state_len: usize,
+                rows: *mut u32,
+                rows_len: usize,
+            ) -> Filled;
+            #[allow(clippy::too_many_arguments)]
             pub fn yakuemi_place(
                 nx: u32,
                 ny: u32,
@@ -57,6 +71,26 @@ pub mod raw {
     /// Measures of a block.
     pub fn measures(nx: u32, ny: u32, nz: u32) -> Measures {
         unsafe { c::yakuemi_measures(nx, ny, nz) }
+    }
+
+    /// Filling a block, into tables that the caller lends.
+    pub fn fill(sizes: [u32; 3], samples: &[i16], cuts: &[u8], state: &mut [u8], rows: &mut [u32]) -> Filled {
+        let [nx, ny, nz] = sizes;
+        unsafe {
+            c::yakuemi_fill(
+                nx,
+                ny,
+                nz,
+                samples.as_ptr(),
+                samples.len(),
+                cuts.as_ptr(),
+                cuts.len(),
+                state.as_mut_ptr(),
+                state.len(),
+                rows.as_mut_ptr(),
+                rows.len(),
+            )
+        }
     }
 
     /// The place of an id.
@@ -117,6 +151,23 @@ pub fn measures(sizes: [u32; 3]) -> Result<Measures, Refusal> {
     match m.number {
         0 => Ok(Measures { points: m.points, tetrahedra: m.tetrahedra }),
         1 => Err(Refusal::Size),
+        n => Err(Refusal::Other(n)),
+    }
+}
+
+/// Fills a block: N samples, 7N cut bytes, N state bytes, and a row table of any length.
+pub fn fill(sizes: [u32; 3], samples: &[i16], cuts: &[u8], state: &mut [u8], rows: &mut [u32]) -> Result<Filling, Refusal> {
+    let f = raw::fill(sizes, samples, cuts, state, rows);
+    match f.number {
+        0 => Ok(Filling { rows: f.rows, moved: f.moved }),
+        1 => Err(Refusal::Size),
+        2 => Err(Refusal::Samples),
+        3 => Err(Refusal::Cuts),
+        4 => Err(Refusal::State),
+        5 => Err(Refusal::Rim(f.place)),
+        6 => Err(Refusal::Gap(f.place)),
+        7 => Err(Refusal::Stray(f.place)),
+        10 => Err(Refusal::Table { rows: f.rows, moved: f.moved }),
         n => Err(Refusal::Other(n)),
     }
 }
