@@ -1,0 +1,5 @@
+pub mod Signed
+pub mod Stores
+pub mod Left
+pub mod Fitting
+pub mod Laid
