@@ -73,8 +73,8 @@ module _ {bytes : List ℕ} {head count first total : ℕ} {table₀ : List ℕ}
     next-there {r} h e = omega (arith, ap lengths (step h e), w .there)
 
     -- the table once the gap before the run is cleared, and the room that is left in it
-    pub cleared-long : {r : Run} {u : List ℕ} → u ≡ sets table k (replicate (r .offset - k) 0) → length u ≡ length table₀
-    cleared-long g = ap length g ∙ simp length-sets (w .long)
+    pub cleared-long : (n : ℕ) {u : List ℕ} → u ≡ sets table k (replicate n 0) → length u ≡ length table₀
+    cleared-long n g = ap length g ∙ simp length-sets (w .long)
 
     pub laid-next : {r : Run} {u t : List ℕ} → i < count → r ≡ runAt bytes (head + 6 * i)
         → u ≡ sets table k (replicate (r .offset - k) 0)

@@ -3,3 +3,5 @@ pub mod Stores
 pub mod Left
 pub mod Fitting
 pub mod Laid
+pub mod Parts
+pub mod Outcome

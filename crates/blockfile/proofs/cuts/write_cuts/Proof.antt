@@ -57,7 +57,7 @@ copy-requires : tie.Need-copy-requires Inv-loop μ-loop
 copy-requires c κs =
     let g = c .before .before .before .before .before .before .before in
     let v = next-fits (g .before .before .loop .inv) (g .before .loop-test .taken) (g .run-at .ensures .0) in
-    let l = cleared-long (g .before .before .loop .inv) {r = g .run-at .result} (c .before .before .before .before .clear .ensures) in
+    let l = cleared-long (g .before .before .loop .inv) (g .run-at .result .offset - g .before .before .loop .k) (c .before .before .before .before .clear .ensures) in
     simp (length-take, length-drop) (omega (arith, v .within))
 
 add-k : tie.Need-add-k Inv-loop μ-loop
