@@ -29,6 +29,7 @@ use Rattle.blockfile.specs.Format.{
   refusal,
   refused,
   taken,
+  readBody,
   read,
 }
 use Rattle.blockfile.proofs.Stores.{sets-front}
@@ -66,52 +67,60 @@ file-cuts-long bytes n e =
 abbrev pub Is : Outcome → Read → List ℤ → List ℕ → Type 0
 Is o r samples cuts = (r ≡ o .answer) × ((samples ≡ o .samples) × (cuts ≡ o .cuts))
 
-module _ (bytes : List ℕ) (limit : ℕ) (samples : List ℤ) (cuts : List ℕ) where
-  pub refusal-is : {r : Read} (k : ℕ) → read bytes limit samples cuts ≡ refused bytes limit samples cuts k → r ≡ refusal k
-      → Is (read bytes limit samples cuts) r samples cuts
-  refusal-is k e p =
-      (p ∙ ap (λ (o : Outcome). o .answer) (sym e), (ap (λ (o : Outcome). o .samples) (sym e), ap (λ (o : Outcome). o .cuts) (sym e)))
+-- a refusal, and what is left to show of an outcome that is known
+pub refusal-is : (samples : List ℤ) (cuts : List ℕ) {o : Outcome} {r : Read} (k : ℕ) → o ≡ refused samples cuts k
+    → r ≡ refusal k → Is o r samples cuts
+refusal-is samples cuts k e p =
+    (p ∙ ap (λ (o : Outcome). o .answer) (sym e), (ap (λ (o : Outcome). o .samples) (sym e), ap (λ (o : Outcome). o .cuts) (sym e)))
 
-  pub refuse-short : length bytes < 3 → read bytes limit samples cuts ≡ refused bytes limit samples cuts 11
+pub is-of : {o u : Outcome} {r : Read} {samples : List ℤ} {cuts : List ℕ} → o ≡ u → Is u r samples cuts → Is o r samples cuts
+is-of e w = rw e w
+
+-- after the size bytes
+module _ (bytes : List ℕ) (samples : List ℤ) (cuts : List ℕ) (s : Sizes) {n : ℕ} (p : n ≡ points s) where
+  pub refuse-samples : length samples < n → readBody bytes samples cuts s ≡ refused samples cuts 12
+  unfolding readBody
+  refuse-samples h = simp (← p, lt-ltb (length samples) n h)
+
+  module _ (room : n ≤ length samples) where
+    pub refuse-cuts : length cuts < 7 * n → readBody bytes samples cuts s ≡ refused samples cuts 12
+    unfolding readBody
+    refuse-cuts h = simp (← p, le-ltb (length samples) n room, lt-ltb (length cuts) (7 * n) h)
+
+    module _ (roomy : 7 * n ≤ length cuts) where
+      pub refuse-file : wellFormed bytes n ≡ false → readBody bytes samples cuts s ≡ refused samples cuts 11
+      unfolding readBody
+      refuse-file e = simp (← p, le-ltb (length samples) n room, le-ltb (length cuts) (7 * n) roomy, e)
+
+      -- a block that is taken: both tables are written from their first entry on
+      pub take-block : {ss : List ℤ} {cs : List ℕ} {stop : ℕ} → wellFormed bytes n ≡ true
+          → ss ≡ sets samples 0 (samplesFrom bytes 3 n) → cs ≡ sets cuts 0 (fileCuts bytes n) → stop ≡ end bytes n
+          → Is (readBody bytes samples cuts s) (record { number = 0; nx = s .nx; ny = s .ny; nz = s .nz; end = stop }) ss cs
+      unfolding readBody taken
+      take-block {ss} {cs} {stop} e f g h =
+          simp (← p, le-ltb (length samples) n room, le-ltb (length cuts) (7 * n) roomy, e)
+          (ap (λ (m : ℕ). record { number = 0; nx = s .nx; ny = s .ny; nz = s .nz; end = m }) h, (f ∙ front, g ∙ back))
+        where
+          front : sets samples 0 (samplesFrom bytes 3 n) ≡ samplesFrom bytes 3 n ++ drop n samples
+          front = sets-front samples (samplesFrom bytes 3 n) (samples-long bytes 3 n) room
+
+          back : sets cuts 0 (fileCuts bytes n) ≡ fileCuts bytes n ++ drop (7 * n) cuts
+          back = sets-front cuts (fileCuts bytes n) (file-cuts-long bytes n e) roomy
+
+module _ (bytes : List ℕ) (limit : ℕ) (samples : List ℤ) (cuts : List ℕ) where
+  pub refuse-short : length bytes < 3 → read bytes limit samples cuts ≡ refused samples cuts 11
   unfolding read
   refuse-short h = simp (lt-ltb (length bytes) 3 h)
 
   module _ {s : Sizes} (q : s ≡ fileSizes bytes) (long : 3 ≤ length bytes) where
-    pub refuse-size : sizesFit s ≡ false → read bytes limit samples cuts ≡ refused bytes limit samples cuts 1
+    pub refuse-size : sizesFit s ≡ false → read bytes limit samples cuts ≡ refused samples cuts 1
     unfolding read
     refuse-size e = simp (le-ltb (length bytes) 3 long, ← q, e)
 
-    module _ (sized : sizesFit s ≡ true) where
-      pub refuse-bench : beyond limit s ≡ true → read bytes limit samples cuts ≡ refused bytes limit samples cuts 12
-      unfolding read
-      refuse-bench e = simp (le-ltb (length bytes) 3 long, ← q, sized, e)
+    pub refuse-bench : sizesFit s ≡ true → beyond limit s ≡ true → read bytes limit samples cuts ≡ refused samples cuts 12
+    unfolding read
+    refuse-bench f e = simp (le-ltb (length bytes) 3 long, ← q, f, e)
 
-      module _ {n : ℕ} (within : beyond limit s ≡ false) (p : n ≡ points s) where
-        pub refuse-samples : length samples < n → read bytes limit samples cuts ≡ refused bytes limit samples cuts 12
-        unfolding read
-        refuse-samples h = simp (le-ltb (length bytes) 3 long, ← q, sized, within, ← p, lt-ltb (length samples) n h)
-
-        module _ (room : n ≤ length samples) where
-          pub refuse-cuts : length cuts < 7 * n → read bytes limit samples cuts ≡ refused bytes limit samples cuts 12
-          unfolding read
-          refuse-cuts h = simp (le-ltb (length bytes) 3 long, ← q, sized, within, ← p, le-ltb (length samples) n room, lt-ltb (length cuts) (7 * n) h)
-
-          module _ (roomy : 7 * n ≤ length cuts) where
-            pub refuse-file : wellFormed bytes n ≡ false → read bytes limit samples cuts ≡ refused bytes limit samples cuts 11
-            unfolding read
-            refuse-file e = simp (le-ltb (length bytes) 3 long, ← q, sized, within, ← p, le-ltb (length samples) n room, le-ltb (length cuts) (7 * n) roomy, e)
-
-            -- a block that is taken: both tables are written from their first entry on
-            pub take-block : {ss : List ℤ} {cs : List ℕ} {stop : ℕ} → wellFormed bytes n ≡ true
-                → ss ≡ sets samples 0 (samplesFrom bytes 3 n) → cs ≡ sets cuts 0 (fileCuts bytes n) → stop ≡ end bytes n
-                → Is (read bytes limit samples cuts) (record { number = 0; nx = s .nx; ny = s .ny; nz = s .nz; end = stop }) ss cs
-            unfolding read taken
-            take-block {ss} {cs} {stop} e f g h =
-                simp (le-ltb (length bytes) 3 long, ← q, sized, within, ← p, le-ltb (length samples) n room, le-ltb (length cuts) (7 * n) roomy, e)
-                (ap (λ (m : ℕ). record { number = 0; nx = s .nx; ny = s .ny; nz = s .nz; end = m }) h, (f ∙ front, g ∙ back))
-              where
-                front : sets samples 0 (samplesFrom bytes 3 n) ≡ samplesFrom bytes 3 n ++ drop n samples
-                front = sets-front samples (samplesFrom bytes 3 n) (samples-long bytes 3 n) room
-
-                back : sets cuts 0 (fileCuts bytes n) ≡ fileCuts bytes n ++ drop (7 * n) cuts
-                back = sets-front cuts (fileCuts bytes n) (file-cuts-long bytes n e) roomy
+    pub go-on : sizesFit s ≡ true → beyond limit s ≡ false → read bytes limit samples cuts ≡ readBody bytes samples cuts s
+    unfolding read
+    go-on f e = simp (le-ltb (length bytes) 3 long, ← q, f, e)

@@ -108,12 +108,12 @@ pub record Outcome : Type 0 where
 unfoldable pub refusal : ℕ → Read
 refusal k = record { number = k; nx = 0; ny = 0; nz = 0; end = 0 }
 
-module _ (bytes : List ℕ) (limit : ℕ) (samples : List ℤ) (cuts : List ℕ) where
-  -- a refusal writes nothing
-  abbrev pub refused : ℕ → Outcome
-  refused k = record { answer = refusal k; samples = samples; cuts = cuts }
+-- a refusal writes nothing
+abbrev pub refused : List ℤ → List ℕ → ℕ → Outcome
+refused samples cuts k = record { answer = refusal k; samples = samples; cuts = cuts }
 
-  -- the first N samples and the first 7N cut bytes are the file's; "entries beyond stay untouched"
+module _ (bytes : List ℕ) (samples : List ℤ) (cuts : List ℕ) where
+  -- the first N samples and the first 7N cut bytes are the file's; entries beyond stay untouched
   unfoldable pub taken : Sizes → Outcome
   taken s =
       record {
@@ -122,14 +122,18 @@ module _ (bytes : List ℕ) (limit : ℕ) (samples : List ℤ) (cuts : List ℕ)
         cuts = fileCuts bytes (points s) ++ drop (7 * points s) cuts;
       }
 
-  -- "Order: under three bytes 11, 1, 12, 11"; a lent table that is too short for the block counts as 12 too
-  unfoldable pub read : Outcome
-  read =
-      let s = fileSizes bytes in
-      if ltb (length bytes) 3 then refused 11
-      else if not (sizesFit s) then refused 1
-      else if beyond limit s then refused 12
-      else if ltb (length samples) (points s) then refused 12
-      else if ltb (length cuts) (7 * points s) then refused 12
-      else if not (wellFormed bytes (points s)) then refused 11
+  -- after the size bytes; a lent table that is too short for the block counts as 12
+  unfoldable pub readBody : Sizes → Outcome
+  readBody s =
+      if ltb (length samples) (points s) then refused samples cuts 12
+      else if ltb (length cuts) (7 * points s) then refused samples cuts 12
+      else if not (wellFormed bytes (points s)) then refused samples cuts 11
       else taken s
+
+-- "Order: under three bytes 11, 1, 12, 11"
+unfoldable pub read : List ℕ → ℕ → List ℤ → List ℕ → Outcome
+read bytes limit samples cuts =
+    if ltb (length bytes) 3 then refused samples cuts 11
+    else if not (sizesFit (fileSizes bytes)) then refused samples cuts 1
+    else if beyond limit (fileSizes bytes) then refused samples cuts 12
+    else readBody bytes samples cuts (fileSizes bytes)

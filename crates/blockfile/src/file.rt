@@ -11,7 +11,8 @@ ghost use mathlib.Core.Bool.{true};
 ghost use Prim.Native.Nat.{_+_, _*_, _≤_};
 ghost use lib.ListN.{length};
 ghost use lib.Seq.{sets};
-ghost use Rattle.blockfile.specs.Format.{fileSizes, beyond, wellFormed, samplesFrom, fileCuts, read, refusal};
+ghost use Rattle.lattice.specs.Counts.{Sized};
+ghost use Rattle.blockfile.specs.Format.{fileSizes, beyond, wellFormed, samplesFrom, fileCuts, read, readBody, refusal};
 
 // The sizes with which a file starts.
 fn sizes_of(bytes: &[u8]) -> Sizes
@@ -63,23 +64,13 @@ fn write_tables(bytes: &[u8], n: usize, samples: &mut [i16], cuts: &mut [u8])
     cuts::write_cuts(bytes, head, count, head + 6 * count, 7 * n, cuts);
 }
 
-// Reads a block file from the start of the bytes into the first entries of the lent tables, and
-// says where it ends. Everything is checked before anything is written.
-pub fn read(bytes: &[u8], limit: usize, samples: &mut [i16], cuts: &mut [u8]) -> Read
-    ensures { λ r. ⌜ r ≡ read (now (bytes .entry)) limit (now (samples .entry)) (now (cuts .entry)) .answer ⌝ }
-    ensures { λ _. ⌜ now (samples .exit) ≡ read (now (bytes .entry)) limit (now (samples .entry)) (now (cuts .entry)) .samples ⌝ }
-    ensures { λ _. ⌜ now (cuts .exit) ≡ read (now (bytes .entry)) limit (now (samples .entry)) (now (cuts .entry)) .cuts ⌝ }
+// What follows the size bytes: read whole into tables that have room for it, or refused.
+fn read_body(bytes: &[u8], s: Sizes, samples: &mut [i16], cuts: &mut [u8]) -> Read
+    requires { ⌜ Sized s ⌝ }
+    ensures { λ r. ⌜ r ≡ readBody (now (bytes .entry)) (now (samples .entry)) (now (cuts .entry)) s .answer ⌝ }
+    ensures { λ _. ⌜ now (samples .exit) ≡ readBody (now (bytes .entry)) (now (samples .entry)) (now (cuts .entry)) s .samples ⌝ }
+    ensures { λ _. ⌜ now (cuts .exit) ≡ readBody (now (bytes .entry)) (now (samples .entry)) (now (cuts .entry)) s .cuts ⌝ }
 {
-    if bytes.len() < 3 {
-        return refused(11);
-    }
-    let s = sizes_of(bytes);
-    if !counts::sizes_fit(s) {
-        return refused(1);
-    }
-    if is_beyond(s, limit) {
-        return refused(12);
-    }
     let n = counts::point_count(s);
     if samples.len() < n {
         return refused(12);
@@ -98,4 +89,24 @@ pub fn read(bytes: &[u8], limit: usize, samples: &mut [i16], cuts: &mut [u8]) ->
         nz: s.nz,
         end: runs::end_of(bytes, n),
     }
+}
+
+// Reads a block file from the start of the bytes into the first entries of the lent tables, and
+// says where it ends. Everything is checked before anything is written.
+pub fn read(bytes: &[u8], limit: usize, samples: &mut [i16], cuts: &mut [u8]) -> Read
+    ensures { λ r. ⌜ r ≡ read (now (bytes .entry)) limit (now (samples .entry)) (now (cuts .entry)) .answer ⌝ }
+    ensures { λ _. ⌜ now (samples .exit) ≡ read (now (bytes .entry)) limit (now (samples .entry)) (now (cuts .entry)) .samples ⌝ }
+    ensures { λ _. ⌜ now (cuts .exit) ≡ read (now (bytes .entry)) limit (now (samples .entry)) (now (cuts .entry)) .cuts ⌝ }
+{
+    if bytes.len() < 3 {
+        return refused(11);
+    }
+    let s = sizes_of(bytes);
+    if !counts::sizes_fit(s) {
+        return refused(1);
+    }
+    if is_beyond(s, limit) {
+        return refused(12);
+    }
+    read_body(bytes, s, samples, cuts)
 }
