@@ -15,9 +15,9 @@ use Rattle.blockfile.proofs.Fitting.{RunFits, fit-head, fit-tail, fit-e
 -- a run: the gap before it is cleared, and its bytes are copied
 pub lay-run : (bytes table : List ℕ) (total k at : ℕ) (r : Run) (rs : List Run) → k ≤ r .offset → at + r .length ≤ length bytes
     → sets (sets (sets table k (replicate (r .offset - k) 0)) (r .offset) (take (r .length) (drop at bytes)))
-      (r .offset + r .length)
-      (cutsFrom bytes total (r .offset + r .length) (at + r .length) rs)
-      ≡ sets table k (cutsFrom bytes total k at (r ∷ rs))
+    (r .offset + r .length)
+    (cutsFrom bytes total (r .offset + r .length) (at + r .length) rs)
+    ≡ sets table k (cutsFrom bytes total k at (r ∷ rs))
 unfolding cutsFrom
 lay-run bytes table total k at r rs h g = sym (sets-append table k gap (part ++ rest) ∙ rw a (sets-append (sets table k gap) (r .offset) part rest ∙ rw b refl))
   where
@@ -91,13 +91,13 @@ module _ {bytes : List ℕ} {head count first total : ℕ} {table₀ : List ℕ}
           long = ap length f ∙ simp length-sets (w .long);
           there = next-there h e;
           fits =
-            fit-earlier total (r .offset + r .length + 1) (r .offset + r .length) rest (omega arith)
-            (fit-tail total k r rest (rw (← (step h e)) (w .fits)));
+              fit-earlier total (r .offset + r .length + 1) (r .offset + r .length) rest (omega arith)
+              (fit-tail total k r rest (rw (← (step h e)) (w .fits)));
           same =
-            rw f
-            (lay-run bytes table total k at r rest (v .after) (omega (arith, next-there h e))
-            ∙ ap (λ (rs : List Run). sets table k (cutsFrom bytes total k at rs)) (sym (step h e))
-            ∙ w .same);
+              rw f
+              (lay-run bytes table total k at r rest (v .after) (omega (arith, next-there h e))
+              ∙ ap (λ (rs : List Run). sets table k (cutsFrom bytes total k at rs)) (sym (step h e))
+              ∙ w .same);
         }
 
     -- at the end the rest is cleared

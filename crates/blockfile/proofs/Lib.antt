@@ -5,3 +5,6 @@ pub mod Fitting
 pub mod Laid
 pub mod Parts
 pub mod Outcome
+pub mod Opened
+pub mod Given
+pub mod Examples

@@ -5,10 +5,11 @@ use mathlib.Core.Path.{_≡_, refl, sym, _∙_}
 use mathlib.Core.Bool.{Bool, true, false}
 use mathlib.Core.List.{List}
 use lib.ListN.{length, take, drop}
+use lib.Seq.{sets}
 use lib.Dec.{leb, leb→le}
 use borrow.Author.Tests.{le-leb, lt-leb}
 use Rattle.basics.proofs.Test.{&&-l, &&-r, T-true, true-T}
-use Rattle.blockfile.specs.Format.{fit, lengths, noZero, runsFrom, runCount, fileRuns, firstByte, end, wellFormed}
+use Rattle.blockfile.specs.Format.{fit, lengths, noZero, runsFrom, cutsFrom, runCount, fileRuns, firstByte, end, fileCuts, wellFormed}
 
 module _ (bytes : List ℕ) (n : ℕ) where
   pub first-end : firstByte bytes n ≤ end bytes n
@@ -58,3 +59,9 @@ pub record Held (bytes : List ℕ) (n count : ℕ) : Type 0 where
 pub held : {bytes : List ℕ} {n count : ℕ} → WellFormed bytes n → count ≡ runCount bytes n → Held bytes n count
 unfolding end
 held {bytes} {n} {count} w e = rw e (record { headed = omega (arith, w .long); there = w .long; fits = w .fits })
+
+pub file-cuts : (bytes table : List ℕ) (n : ℕ) {t : List ℕ} {count : ℕ} → count ≡ runCount bytes n
+    → t ≡ sets table 0 (cutsFrom bytes (7 * n) 0 (5 + 2 * n + 6 * count) (runsFrom bytes (5 + 2 * n) count))
+    → t ≡ sets table 0 (fileCuts bytes n)
+unfolding fileCuts
+file-cuts bytes table n e f = rw (← e) f

@@ -125,15 +125,18 @@ module _ (bytes : List ℕ) (samples : List ℤ) (cuts : List ℕ) where
   -- after the size bytes; a lent table that is too short for the block counts as 12
   unfoldable pub readBody : Sizes → Outcome
   readBody s =
+      let block = taken s in
       if ltb (length samples) (points s) then refused samples cuts 12
       else if ltb (length cuts) (7 * points s) then refused samples cuts 12
       else if not (wellFormed bytes (points s)) then refused samples cuts 11
-      else taken s
+      else block
 
 -- "Order: under three bytes 11, 1, 12, 11"
 unfoldable pub read : List ℕ → ℕ → List ℤ → List ℕ → Outcome
 read bytes limit samples cuts =
+    let s = fileSizes bytes in
+    let body = readBody bytes samples cuts s in
     if ltb (length bytes) 3 then refused samples cuts 11
-    else if not (sizesFit (fileSizes bytes)) then refused samples cuts 1
-    else if beyond limit (fileSizes bytes) then refused samples cuts 12
-    else readBody bytes samples cuts (fileSizes bytes)
+    else if not (sizesFit s) then refused samples cuts 1
+    else if beyond limit s then refused samples cuts 12
+    else body

@@ -29,7 +29,14 @@ fn copy(part: &[u8], table: &mut [u8], k: usize)
 
 // The first `total` entries become the cut table of the runs whose headers start at `head` and
 // whose bytes start at `first`: every entry is written once, in ascending order.
-pub fn write_cuts(bytes: &[u8], head: usize, count: usize, first: usize, total: usize, table: &mut [u8])
+pub fn write_cuts(
+    bytes: &[u8],
+    head: usize,
+    count: usize,
+    first: usize,
+    total: usize,
+    table: &mut [u8],
+)
     requires { ⌜ (count < 65536) × (head + 6 * count ≤ length (now bytes)) ⌝ }
     requires { ⌜ first + lengths (runsFrom (now bytes) head count) ≤ length (now bytes) ⌝ }
     requires { ⌜ fit total 0 (runsFrom (now bytes) head count) ≡ true ⌝ }

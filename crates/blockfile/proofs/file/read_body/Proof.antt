@@ -52,9 +52,10 @@ returns-3 c =
 write-tables-requires : tie.Need-write-tables-requires
 write-tables-requires c κs =
     let a = c .before .before .before .before .before .before in
-    let small = points-small (a .before .before .before .args .s) (a .before .before .before .pre) in
-    ((omega (arith, small, a .point-count .ensures), sym (c .before .before .before .is-well-formed .ensures) ∙ not-false _ (c .before .before .if3 .left)),
-    (c .before .before .before .before .before .if1 .left, c .before .before .before .before .if2 .left))
+    let small = points-small (a .before .before .before .args .s) (a .before .before .before .pre) in (
+      (omega (arith, small, a .point-count .ensures), sym (c .before .before .before .is-well-formed .ensures) ∙ not-false _ (c .before .before .if3 .left)),
+      (c .before .before .before .before .before .if1 .left, c .before .before .before .before .if2 .left),
+    )
 
 end-of-requires : tie.Need-end-of-requires
 end-of-requires c κs =

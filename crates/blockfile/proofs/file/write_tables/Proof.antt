@@ -1,11 +1,7 @@
 -- The parts of a well-formed file are within it, and both tables are written from them. Assumes nothing.
-use Prim.Native.Nat.{ℕ, _+_, _*_}
-use mathlib.Core.Path.{_≡_, ap, _∙_}
 use native.Mathlib.Omega.{arith}
 use borrow.Author.Needs.{needs}
-use lib.Seq.{sets}
-use Rattle.blockfile.specs.Format.{end, fileCuts, cutsFrom, runsFrom}
-use Rattle.blockfile.proofs.Parts.{well-formed, first-end, held}
+use Rattle.blockfile.proofs.Parts.{well-formed, first-end, held, file-cuts}
 use Rattle.blockfile.proofs.file.write_tables.Statement.{statement}
 use Rattle.blockfile.proofs.file.write_tables.Tie as tie
 
@@ -55,13 +51,10 @@ same-length-2 : tie.Need-same-length-2
 same-length-2 c = search needs
 
 returns : tie.Need-returns
-unfolding fileCuts
-returns c = 
-    let a = c .before .before .before .before .before .before .before .before .before .before .args in
-    (c .before .before .before .before .before .before .write-samples .ensures,
-    c .before .before .write-cuts .ensures
-    ∙ ap (λ (m : ℕ). sets (a .cuts .now) 0 (cutsFrom (a .bytes .now) (7 * a .n) 0 (5 + 2 * a .n + 6 * m) (runsFrom (a .bytes .now) (5 + 2 * a .n) m)))
-      (c .before .before .before .before .two-at .ensures .0))
+returns c = (
+  c .before .before .before .before .before .before .write-samples .ensures,
+  file-cuts _ _ _ (c .before .before .before .before .two-at .ensures .0) (c .before .before .write-cuts .ensures),
+)
 
 pub write-tables-spec : {M : Type 1} → statement M
 write-tables-spec =

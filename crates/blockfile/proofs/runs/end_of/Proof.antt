@@ -7,11 +7,11 @@ use Rattle.blockfile.specs.Format.{end, lengths, runsFrom}
 use Rattle.blockfile.proofs.runs.end_of.Statement.{statement}
 use Rattle.blockfile.proofs.runs.end_of.Tie as tie
 
-mul-head : tie.Need-mul-head
-mul-head c = search needs
+mul-start : tie.Need-mul-start
+mul-start c = search needs
 
-add-head : tie.Need-add-head
-add-head c = search needs
+add-start : tie.Need-add-start
+add-start c = search needs
 
 mul-two-at : tie.Need-mul-two-at
 mul-two-at c = search needs
@@ -45,8 +45,8 @@ pub end-of-spec : {M : Type 1} → statement M
 end-of-spec =
     tie.close
     (tie.spec
-    mul-head
-    add-head
+    mul-start
+    add-start
     mul-two-at
     add-two-at
     two-at-requires
