@@ -33,6 +33,10 @@ unfolding runFits
 fits-run total least r w =
     simp (le-leb 1 (r .length) (w .filled), le-leb (r .offset + r .length) total (w .within), le-leb least (r .offset) (w .after))
 
+pub fit-none : (total least : ℕ) → fit total least [] ≡ true
+unfolding fit
+fit-none total least = refl
+
 module _ (total least : ℕ) (r : Run) (rs : List Run) where
   pub fit-head : fit total least (r ∷ rs) ≡ true → RunFits total least r
   unfolding fit

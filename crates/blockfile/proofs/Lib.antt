@@ -5,6 +5,9 @@ pub mod Fitting
 pub mod Laid
 pub mod Parts
 pub mod Outcome
+pub mod Stands
+pub mod Rows
+pub mod RoundTrip
 pub mod Opened
 pub mod Given
 pub mod Examples

@@ -92,14 +92,18 @@ module _ (bytes : List ℕ) (samples : List ℤ) (cuts : List ℕ) (s : Sizes) {
       unfolding readBody
       refuse-file e = simp (← p, le-ltb (length samples) n room, le-ltb (length cuts) (7 * n) roomy, e)
 
+      pub taken-is : wellFormed bytes n ≡ true → readBody bytes samples cuts s ≡ taken bytes samples cuts s
+      unfolding readBody
+      taken-is e = simp (← p, le-ltb (length samples) n room, le-ltb (length cuts) (7 * n) roomy, e)
+
       -- a block that is taken: both tables are written from their first entry on
       pub take-block : {ss : List ℤ} {cs : List ℕ} {stop : ℕ} → wellFormed bytes n ≡ true
           → ss ≡ sets samples 0 (samplesFrom bytes 3 n) → cs ≡ sets cuts 0 (fileCuts bytes n) → stop ≡ end bytes n
           → Is (readBody bytes samples cuts s) (record { number = 0; nx = s .nx; ny = s .ny; nz = s .nz; end = stop }) ss cs
-      unfolding readBody taken
+      unfolding taken
       take-block {ss} {cs} {stop} e f g h =
-          simp (← p, le-ltb (length samples) n room, le-ltb (length cuts) (7 * n) roomy, e)
-          (ap (λ (m : ℕ). record { number = 0; nx = s .nx; ny = s .ny; nz = s .nz; end = m }) h, (f ∙ front, g ∙ back))
+          is-of (taken-is e)
+          (rw (← p) (ap (λ (m : ℕ). record { number = 0; nx = s .nx; ny = s .ny; nz = s .nz; end = m }) h, (f ∙ front, g ∙ back)))
         where
           front : sets samples 0 (samplesFrom bytes 3 n) ≡ samplesFrom bytes 3 n ++ drop n samples
           front = sets-front samples (samplesFrom bytes 3 n) (samples-long bytes 3 n) room

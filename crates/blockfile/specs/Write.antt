@@ -1,20 +1,23 @@
 -- A block as a file: document 01's format the other way round. The runs are the longest rows of non-zero cut bytes.
-use Prim.Native.Nat.{ℕ, _+_, _-_, _/_, _%_, _≤_, _<_}
+use Prim.Native.Nat.{ℕ, _+_, _-_, _/_, _%_, _≤_}
+use mathlib.Core.Path.{_≡_}
+use mathlib.Core.Bool.{Bool, true, false, _&&_}
 use mathlib.Core.List.{List, [], _∷_, _++_}
 use lib.IntN.{ℤ, pos, negsuc}
 use lib.ListN.{length}
-use lib.Dec.{eqb}
+use lib.Dec.{eqb, leb}
 use Rattle.basics.specs.Choice.{if_then_else_}
 use Rattle.basics.specs.Lists.{gather}
-use Rattle.moving.specs.Block.{Block}
+use Rattle.moving.specs.Block.{Block, Tabled}
 use Rattle.blockfile.specs.declared.Run.{Run}
+use Rattle.blockfile.specs.Format.{beyond}
 
--- a number in two bytes, and in four, "low byte first"
+-- a number in two bytes, and in four, "low byte first"; what does not fit is lost
 unfoldable pub twoBytes : ℕ → List ℕ
-twoBytes n = n % 256 ∷ n / 256 ∷ []
+twoBytes n = n % 256 ∷ n / 256 % 256 ∷ []
 
 unfoldable pub fourBytes : ℕ → List ℕ
-fourBytes n = twoBytes (n % 65536) ++ twoBytes (n / 65536)
+fourBytes n = twoBytes n ++ twoBytes (n / 65536)
 
 -- "two's complement"
 unfoldable pub unsigned : ℤ → ℕ
@@ -52,3 +55,25 @@ write b =
     ∷ b .sizes .ny
     ∷ b .sizes .nz
     ∷ gather sampleBytes (b .samples) ++ (twoBytes (length runs) ++ (gather header runs ++ listed (b .cuts)))
+
+-- samples of sixteen bits; runs at most 65,535 long
+unfoldable pub sixteen : ℤ → Bool
+sixteen (pos n) = leb n 32767
+sixteen (negsuc n) = leb n 32767
+
+unfoldable pub narrow : List ℤ → Bool
+narrow [] = true
+narrow (z ∷ zs) = sixteen z && narrow zs
+
+unfoldable pub short : List Run → Bool
+short [] = true
+short (r ∷ rs) = leb (r .length) 65535 && short rs
+
+-- the blocks that a file can hold: sizes within the reader's limit, the right number of samples and cut bytes, samples of sixteen bits,
+-- at most 65,535 runs, and each at most 65,535 long (a longer one cannot be split, as runs never touch)
+pub record Writable (limit : ℕ) (b : Block) : Type 0 where
+  pub tabled : Tabled b
+  pub within : beyond limit (b .sizes) ≡ false
+  pub narrow-samples : narrow (b .samples) ≡ true
+  pub few-runs : length (runsOf 0 (b .cuts)) ≤ 65535
+  pub short-runs : short (runsOf 0 (b .cuts)) ≡ true
