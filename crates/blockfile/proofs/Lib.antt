@@ -8,6 +8,7 @@ pub mod Outcome
 pub mod Stands
 pub mod Rows
 pub mod RoundTrip
+pub mod OnlyBytes
 pub mod Opened
 pub mod Given
 pub mod Examples

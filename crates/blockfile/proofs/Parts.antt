@@ -16,6 +16,11 @@ module _ (bytes : List ℕ) (n : ℕ) where
   unfolding end
   first-end = omega arith
 
+  pub ends : {count sum : ℕ} → count ≡ runCount bytes n → sum ≡ lengths (runsFrom bytes (5 + 2 * n) count)
+      → 5 + 2 * n + 6 * count + sum ≡ end bytes n
+  unfolding end
+  ends p q = rw (← p, ← q) refl
+
   pub too-short : length bytes < end bytes n → false ≡ wellFormed bytes n
   unfolding wellFormed
   too-short h = simp (lt-leb (end bytes n) (length bytes) h)

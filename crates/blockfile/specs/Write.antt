@@ -5,7 +5,7 @@ use mathlib.Core.Bool.{Bool, true, false, _&&_}
 use mathlib.Core.List.{List, [], _∷_, _++_}
 use lib.IntN.{ℤ, pos, negsuc}
 use lib.ListN.{length}
-use lib.Dec.{eqb, leb}
+use lib.Dec.{eqb, leb, ltb}
 use Rattle.basics.specs.Choice.{if_then_else_}
 use Rattle.basics.specs.Lists.{gather}
 use Rattle.moving.specs.Block.{Block, Tabled}
@@ -56,7 +56,11 @@ write b =
     ∷ b .sizes .nz
     ∷ gather sampleBytes (b .samples) ++ (twoBytes (length runs) ++ (gather header runs ++ listed (b .cuts)))
 
--- samples of sixteen bits; runs at most 65,535 long
+-- numbers that are bytes; samples of sixteen bits; runs at most 65,535 long
+unfoldable pub onlyBytes : List ℕ → Bool
+onlyBytes [] = true
+onlyBytes (x ∷ xs) = ltb x 256 && onlyBytes xs
+
 unfoldable pub sixteen : ℤ → Bool
 sixteen (pos n) = leb n 32767
 sixteen (negsuc n) = leb n 32767

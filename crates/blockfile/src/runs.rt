@@ -77,9 +77,9 @@ pub fn end_of(bytes: &[u8], n: usize) -> usize
     requires { ⌜ (n ≤ 536769) × (firstByte (now bytes) n ≤ length (now bytes)) ⌝ }
     ensures { λ r. ⌜ r ≡ end (now (bytes .entry)) n ⌝ }
 {
-    let start = 5 + 2 * n;
     let count = numbers::two_at(bytes, 3 + 2 * n);
-    start + 6 * count + run_bytes(bytes, start, count)
+    let first = 5 + 2 * n + 6 * count;
+    first + run_bytes(bytes, 5 + 2 * n, count)
 }
 
 // What follows the size bytes is that of a block of n points.
