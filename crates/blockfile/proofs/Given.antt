@@ -2,9 +2,8 @@
 -- Assumes nothing.
 use mathlib.Core.Path.{_≡_, refl}
 use mathlib.Core.List.{_++_}
-use lib.ListN.{length}
-use Rattle.cases.specs.Given.{laid, laidRuns, givenSizes, givenSamples, givenCuts, unchanged, changed}
-use Rattle.blockfile.specs.Format.{Outcome, read}
+use Rattle.cases.specs.Given.{laid, laidRuns, givenSamples, givenCuts, unchanged, changed}
+use Rattle.blockfile.specs.Format.{read}
 use Rattle.blockfile.specs.Write.{write}
 use Rattle.blockfile.specs.Examples.{givenFile, lentSamples, lentCuts}
 use Rattle.blockfile.proofs.Opened.{format}

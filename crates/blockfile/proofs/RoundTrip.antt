@@ -1,8 +1,8 @@
 -- A block that is written as a file is read back, whatever follows the file: the answer says where the file ends, the tables hold the block.
 -- Assumes nothing.
-use Prim.Native.Nat.{ℕ, _+_, _*_, _-_, _%_, _<_, _≤_}
+use Prim.Native.Nat.{ℕ, _+_, _*_, _-_, _%_, _≤_}
 use native.Mathlib.Omega.{arith}
-use mathlib.Core.Path.{_≡_, refl, sym, ap, ap₂, _∙_}
+use mathlib.Core.Path.{_≡_, refl, sym, ap, _∙_}
 use mathlib.Core.Bool.{true}
 use mathlib.Core.List.{List, _++_}
 use lib.IntN.{ℤ}
@@ -15,24 +15,7 @@ use Rattle.lattice.specs.Counts.{Sized, sizesFit, points}
 use Rattle.lattice.proofs.Bounds.{points-small}
 use Rattle.moving.specs.Block.{Block}
 use Rattle.blockfile.specs.declared.Run.{Run}
-use Rattle.blockfile.specs.Format.{
-  fit,
-  lengths,
-  noZero,
-  twoAt,
-  fileSizes,
-  samplesFrom,
-  runsFrom,
-  cutsFrom,
-  runCount,
-  fileRuns,
-  firstByte,
-  end,
-  fileCuts,
-  wellFormed,
-  taken,
-  read,
-}
+use Rattle.blockfile.specs.Format.{fit, lengths, noZero, fileSizes, samplesFrom, runsFrom, runCount, fileRuns, firstByte, end, fileCuts, wellFormed, taken, read}
 use Rattle.blockfile.specs.Write.{twoBytes, sampleBytes, header, runsOf, listed, write, Writable}
 use Rattle.blockfile.proofs.Stands.{
   Stands,

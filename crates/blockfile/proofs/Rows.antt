@@ -1,11 +1,11 @@
 -- The runs of a cut table: they fit, no byte in them is zero, and laid down they give the table back. Assumes nothing.
-use Prim.Native.Nat.{ℕ, suc, _+_, _-_, _<_, _≤_}
+use Prim.Native.Nat.{ℕ, _+_, _-_, _<_}
 use native.Mathlib.Omega.{arith}
 use native.Mathlib.Numerals.{add-one}
 use mathlib.Core.Path.{_≡_, refl, sym, ap, ap₂, _∙_}
 use mathlib.Core.Bool.{Bool, true, false}
-use mathlib.Core.List.{List, [], _∷_, _++_}
-use lib.ListN.{length, take, drop, replicate}
+use mathlib.Core.List.{List, [], _∷_}
+use lib.ListN.{length, drop}
 use lib.Dec.{eqb}
 use borrow.Author.Tests.{eqb-true, eqb-false}
 use Rattle.basics.specs.Choice.{if_then_else_}
@@ -14,7 +14,7 @@ use Rattle.blockfile.specs.Format.{fit, lengths, noZero, cutsFrom}
 use Rattle.blockfile.specs.Write.{joined, runsOf, listed}
 use Rattle.blockfile.proofs.Left.{zeros-left}
 use Rattle.blockfile.proofs.Fitting.{RunFits, fit-head, fit-tail, fit-cons, fit-none, fit-earlier}
-use Rattle.blockfile.proofs.Stands.{Stands, stands-byte, stands-second}
+use Rattle.blockfile.proofs.Stands.{Stands, stands-second}
 
 -- a non-zero byte at offset o before runs that start after it is a run of its own, or makes the first of them longer
 abbrev single : ℕ → Run

@@ -1,5 +1,5 @@
 -- Files for the reader: document 01's given case byte by byte, and a file or two for each reason of a refusal.
-use Prim.Native.Nat.{ℕ, _+_}
+use Prim.Native.Nat.{ℕ}
 use mathlib.Core.List.{List, [], _∷_, _++_}
 use lib.IntN.{ℤ, pos}
 use lib.ListN.{replicate, take}

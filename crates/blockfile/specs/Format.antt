@@ -1,7 +1,7 @@
 -- Document 01, "The bench program": a block file, and what reading one answers and leaves in the lent tables, for every input.
 -- A reader takes a file from the start of the bytes and says where it ends, so "too long" is for whoever knows that no file may follow.
 use Prim.Native.Nat.{ℕ, zero, suc, _+_, _*_, _-_}
-use mathlib.Core.Bool.{Bool, true, false, not, _&&_, _||_}
+use mathlib.Core.Bool.{Bool, true, not, _&&_}
 use mathlib.Core.List.{List, [], _∷_, _++_}
 use lib.IntN.{ℤ, pos, negsuc}
 use lib.ListN.{length, getD, take, drop, replicate}
@@ -91,7 +91,8 @@ module _ (bytes : List ℕ) where
     unfoldable pub fileCuts : List ℕ
     fileCuts = cutsFrom (7 * n) 0 firstByte fileRuns
 
-    -- what 11 does not refuse: not "too short", every run fits, and no zero byte in a run
+    -- what 11 does not refuse: not "too short", every run fits, and no zero byte in a run. (A run count or a header beyond the end of
+    -- the bytes reads as zeros; such a file is too short, whatever they say.)
     unfoldable pub wellFormed : Bool
     wellFormed = leb end (length bytes) && (fit (7 * n) 0 fileRuns && noZero (take (end - firstByte) (drop firstByte bytes)))
 

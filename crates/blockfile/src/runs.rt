@@ -5,7 +5,7 @@ ghost use mathlib.Core.Path.{_≡_};
 ghost use mathlib.Core.Bool.{true};
 ghost use Prim.Native.Nat.{_+_, _*_, _<_, _≤_};
 ghost use lib.ListN.{length};
-ghost use Rattle.blockfile.specs.Format.{runAt, runsFrom, runFits, fit, lengths, noZero, wellFormed, runCount, headers, firstByte, end};
+ghost use Rattle.blockfile.specs.Format.{runAt, runsFrom, runFits, fit, lengths, noZero, wellFormed, firstByte, end};
 
 // The run whose header starts at i.
 pub fn run_at(bytes: &[u8], i: usize) -> Run

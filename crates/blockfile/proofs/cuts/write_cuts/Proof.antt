@@ -1,17 +1,12 @@
 -- What is left to lay down, laid down, gives the whole. Assumes nothing.
-use Prim.Native.Nat.{_-_, _+_, _*_, _≤_}
-use mathlib.Core.Path.{_≡_, sym, ap, _∙_}
+use Prim.Native.Nat.{_-_}
+use mathlib.Core.Path.{ap, _∙_}
 use native.Mathlib.Omega.{arith}
 use lib.ListN.{length, length-take, length-drop}
 use lib.Seq.{length-sets}
 use Rattle.blockfile.proofs.Laid.{Laid, laid-first, next-fits, next-there, cleared-long, laid-next, laid-all}
 use Rattle.blockfile.proofs.cuts.write_cuts.Statement.{statement}
 use Rattle.blockfile.proofs.cuts.write_cuts.Tie as tie
-use Rattle.blockfile.proofs.cuts.write_cuts.Reads as reads
-use Rattle.blockfile.proofs.cuts.write_cuts.Lts as lts
-use Rattle.blockfile.proofs.cuts.clear.Reads as clear-reads
-use Rattle.blockfile.proofs.cuts.copy.Reads as copy-reads
-use Rattle.blockfile.proofs.runs.run_at.Reads as run-at-reads
 
 abbrev Inv-loop : tie.InvT-loop
 Inv-loop bytes head count first total table₀ k₀ at₀ i₀ table k at i = Laid bytes head count first total table₀ table k at i

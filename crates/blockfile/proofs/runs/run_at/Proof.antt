@@ -1,5 +1,4 @@
 -- Four bytes and two. Assumes nothing.
-use mathlib.Core.Path.{_≡_}
 use borrow.Author.Needs.{needs}
 use Rattle.blockfile.specs.Format.{runAt}
 use Rattle.blockfile.proofs.runs.run_at.Statement.{statement}
