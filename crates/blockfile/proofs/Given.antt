@@ -1,5 +1,5 @@
--- Document 01's given case: its bytes read to its block, what lies beyond in the lent tables stays, and the block is written as these bytes.
--- Assumes nothing.
+-- Document 01's given case: its bytes read to its block, what lies beyond in the lent tables stays, and the block is written as these
+-- bytes. Assumes nothing.
 use mathlib.Core.Path.{_≡_, refl}
 use mathlib.Core.List.{_++_}
 use Rattle.cases.specs.Given.{laid, laidRuns, givenSamples, givenCuts, unchanged, changed}

@@ -19,7 +19,8 @@ pub lay-run : (bytes table : List ℕ) (total k at : ℕ) (r : Run) (rs : List R
     (cutsFrom bytes total (r .offset + r .length) (at + r .length) rs)
     ≡ sets table k (cutsFrom bytes total k at (r ∷ rs))
 unfolding cutsFrom
-lay-run bytes table total k at r rs h g = sym (sets-append table k gap (part ++ rest) ∙ rw a (sets-append (sets table k gap) (r .offset) part rest ∙ rw b refl))
+lay-run bytes table total k at r rs h g =
+    sym (sets-append table k gap (part ++ rest) ∙ rw a (sets-append (sets table k gap) (r .offset) part rest ∙ rw b refl))
   where
     gap : List ℕ
     gap = replicate (r .offset - k) 0

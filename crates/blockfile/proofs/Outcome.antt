@@ -50,7 +50,9 @@ cuts-long bytes total k at [] h e f = length-replicate (total - k) 0
 cuts-long bytes total k at (r ∷ rs) h e f =
     let w = fit-head total k r rs e in
     let gap : length (replicate {A = ℕ} (r .offset - k) 0) ≡ r .offset - k = length-replicate (r .offset - k) 0 in
-    let part : length (take (r .length) (drop at bytes)) ≡ r .length = length-take-le (r .length) (drop at bytes) (rw length-drop (omega arith)) in
+    let part : length (take (r .length) (drop at bytes)) ≡ r .length =
+    length-take-le (r .length) (drop at bytes) (rw length-drop (omega arith))
+    in
     let rest : length (cutsFrom bytes total (r .offset + r .length) (at + r .length) rs) ≡ total - (r .offset + r .length) =
     cuts-long bytes total (r .offset + r .length) (at + r .length) rs (w .within)
     (fit-earlier total (r .offset + r .length + 1) (r .offset + r .length) rs (omega arith) (fit-tail total k r rs e)) (omega arith)

@@ -26,20 +26,24 @@ module _ (bytes : List ℕ) (n : ℕ) where
   too-short h = simp (lt-leb (end bytes n) (length bytes) h)
 
   -- a run that does not fit, or all of them do; the code holds the run count and the end as numbers
-  module _ {count stop : ℕ} {f : Bool} (p : count ≡ runCount bytes n) (q : stop ≡ end bytes n) (h : stop ≤ length bytes) (r : f ≡ fit (7 * n) 0 (runsFrom bytes (5 + 2 * n) count)) where
-    fits-is : {b : Bool} → f ≡ b → fit (7 * n) 0 (fileRuns bytes n) ≡ b
-    fits-is e = rw (← p) (sym r ∙ e)
+  module _ {count stop : ℕ} (p : count ≡ runCount bytes n) (q : stop ≡ end bytes n) (h : stop ≤ length bytes)
+      {f : Bool} (r : f ≡ fit (7 * n) 0 (runsFrom bytes (5 + 2 * n) count))
+    where
+      fits-is : {b : Bool} → f ≡ b → fit (7 * n) 0 (fileRuns bytes n) ≡ b
+      fits-is e = rw (← p) (sym r ∙ e)
 
-    long-is : leb (end bytes n) (length bytes) ≡ true
-    long-is = le-leb (end bytes n) (length bytes) (omega arith)
+      long-is : leb (end bytes n) (length bytes) ≡ true
+      long-is = le-leb (end bytes n) (length bytes) (omega arith)
 
-    pub misfit : f ≡ false → false ≡ wellFormed bytes n
-    unfolding wellFormed
-    misfit e = simp (long-is, fits-is e)
+      pub misfit : f ≡ false → false ≡ wellFormed bytes n
+      unfolding wellFormed
+      misfit e = simp (long-is, fits-is e)
 
-    pub all-fit : {z : Bool} → f ≡ true → z ≡ noZero (take (stop - (5 + 2 * n + 6 * count)) (drop (5 + 2 * n + 6 * count) bytes)) → z ≡ wellFormed bytes n
-    unfolding wellFormed
-    all-fit e g = simp (long-is, fits-is e) (rw (← p, ← q) g)
+      pub all-fit : {z : Bool} → f ≡ true
+          → z ≡ noZero (take (stop - (5 + 2 * n + 6 * count)) (drop (5 + 2 * n + 6 * count) bytes))
+          → z ≡ wellFormed bytes n
+      unfolding wellFormed
+      all-fit e g = simp (long-is, fits-is e) (rw (← p, ← q) g)
 
 -- what a well-formed file is like
 pub record WellFormed (bytes : List ℕ) (n : ℕ) : Type 0 where

@@ -1,5 +1,5 @@
--- A block that is written as a file is read back, whatever follows the file: the answer says where the file ends, the tables hold the block.
--- Assumes nothing.
+-- A block that is written as a file is read back, whatever follows the file: the answer says where the file ends, the tables hold
+-- the block. Assumes nothing.
 use Prim.Native.Nat.{ℕ, _+_, _*_, _-_, _%_, _≤_}
 use native.Mathlib.Omega.{arith}
 use mathlib.Core.Path.{_≡_, refl, sym, ap, _∙_}
@@ -15,7 +15,8 @@ use Rattle.lattice.specs.Counts.{Sized, sizesFit, points}
 use Rattle.lattice.proofs.Bounds.{points-small}
 use Rattle.moving.specs.Block.{Block}
 use Rattle.blockfile.specs.declared.Run.{Run}
-use Rattle.blockfile.specs.Format.{fit, lengths, noZero, fileSizes, samplesFrom, runsFrom, runCount, fileRuns, firstByte, end, fileCuts, wellFormed, taken, read}
+use Rattle.blockfile.specs.Format.{fit, lengths, noZero, runsFrom, runCount, fileRuns, firstByte, end, fileCuts}
+use Rattle.blockfile.specs.Format.{fileSizes, samplesFrom, wellFormed, taken, read}
 use Rattle.blockfile.specs.Write.{twoBytes, sampleBytes, header, runsOf, listed, write, Writable}
 use Rattle.blockfile.proofs.Stands.{
   Stands,
@@ -116,7 +117,8 @@ module _ (limit : ℕ) (b : Block) (u : Writable limit b) (rest : List ℕ) wher
   cuts-are : fileCuts (file b rest) n ≡ b .cuts
   unfolding fileCuts
   cuts-are =
-      rw (runs-are, first-is) (table-back (file b rest) (7 * n) 0 _ (b .cuts) (omega (arith, u .tabled .cuts-long)) (bytes-stand b rest long))
+      rw (runs-are, first-is)
+      (table-back (file b rest) (7 * n) 0 _ (b .cuts) (omega (arith, u .tabled .cuts-long)) (bytes-stand b rest long))
 
   full : true ≡ noZero (take (length (listed (b .cuts))) (drop (5 + 2 * n + 6 * length (runs b rest)) (file b rest)))
   full = rw (bytes-stand b rest long .is, take-at (listed (b .cuts)) rest (length (listed (b .cuts))) refl) (sym (listed-full (b .cuts)))
@@ -125,7 +127,9 @@ module _ (limit : ℕ) (b : Block) (u : Writable limit b) (rest : List ℕ) wher
   well =
       let first = 5 + 2 * n + 6 * length (runs b rest) in
       let m : first + length (listed (b .cuts)) - first ≡ length (listed (b .cuts)) = omega arith in
-      let fits : true ≡ fit (7 * n) 0 (runsFrom (file b rest) (5 + 2 * n) (length (runs b rest))) = sym (rw count-is at (ap (fit (7 * n) 0) runs-are ∙ runs-fit)) in
+      let fits : true ≡ fit (7 * n) 0 (runsFrom (file b rest) (5 + 2 * n) (length (runs b rest))) =
+      sym (rw count-is at (ap (fit (7 * n) 0) runs-are ∙ runs-fit))
+      in
       sym (all-fit (file b rest) n (sym count-is) (sym end-is) (omega (arith, file-long b rest long)) fits refl (rw m full))
 
   -- sizes are read back too; the file ends where the written block does
@@ -145,6 +149,7 @@ module _ (limit : ℕ) (b : Block) (u : Writable limit b) (rest : List ℕ) wher
         }
     unfolding taken
     read-back =
-        go-on (file b rest) limit samples cuts sizes-are (omega (arith, file-long b rest long)) (sized-fits (b .sizes) (u .tabled .sized)) (u .within)
+        go-on (file b rest) limit samples cuts sizes-are (omega (arith, file-long b rest long))
+        (sized-fits (b .sizes) (u .tabled .sized)) (u .within)
         ∙ taken-is (file b rest) samples cuts (b .sizes) refl room roomy well
         ∙ rw (samples-are, cuts-are, stop-is) refl

@@ -29,7 +29,8 @@ joined-fits total o [] h e =
     fit-cons total o (single o) [] (record { filled = omega arith; within = omega arith; after = omega arith }) (fit-none total (o + 1 + 1))
 joined-fits total o (r ∷ rs) h e = go (fit-head total (o + 1) r rs e) (eqb (r .offset) (o + 1)) refl
   where
-    go : RunFits total (o + 1) r → (b : Bool) → eqb (r .offset) (o + 1) ≡ b → fit total o (if b then longer o r ∷ rs else single o ∷ r ∷ rs) ≡ true
+    go : RunFits total (o + 1) r → (b : Bool) → eqb (r .offset) (o + 1) ≡ b
+        → fit total o (if b then longer o r ∷ rs else single o ∷ r ∷ rs) ≡ true
     go v true q =
         let p = eqb-true (r .offset) (o + 1) q in
         let m : o + (r .length + 1) + 1 ≡ r .offset + r .length + 1 = omega arith in
@@ -86,7 +87,8 @@ unfolding runsOf
 table-fits total k [] e = fit-none total k
 table-fits total k (x ∷ cs) e = go (eqb x 0) (table-fits total (k + 1) cs (omega arith))
   where
-    go : (b : Bool) → fit total (k + 1) (runsOf (k + 1) cs) ≡ true → fit total k (if b then runsOf (k + 1) cs else joined k (runsOf (k + 1) cs)) ≡ true
+    go : (b : Bool) → fit total (k + 1) (runsOf (k + 1) cs) ≡ true
+        → fit total k (if b then runsOf (k + 1) cs else joined k (runsOf (k + 1) cs)) ≡ true
     go true f = fit-earlier total (k + 1) k (runsOf (k + 1) cs) (omega arith) f
     go false f = joined-fits total k (runsOf (k + 1) cs) (omega arith) f
 

@@ -100,8 +100,8 @@ unfolding gather
 headers-bytes [] = refl
 headers-bytes (r ∷ rs) = simp length-append (omega (arith, header-long r, headers-bytes rs))
 
-pub run-back : (r : Run) {bytes : List ℕ} {i : ℕ} {rest : List ℕ} → r .offset < 4294967296 → r .length ≤ 65535 → Stands bytes i (header r) rest
-    → runAt bytes i ≡ r
+pub run-back : (r : Run) {bytes : List ℕ} {i : ℕ} {rest : List ℕ} → r .offset < 4294967296 → r .length ≤ 65535
+    → Stands bytes i (header r) rest → runAt bytes i ≡ r
 unfolding runAt header
 run-back r h g w =
     let o = four-back (r .offset) h (stands-first (fourBytes (r .offset)) (twoBytes (r .length)) w) in

@@ -39,7 +39,8 @@ loop-again : tie.Need-loop-again Inv-loop μ-loop
 loop-again c =
     let at = c .before .before in
     let v = at .loop .inv in
-    (omega arith, v .1, simp length-set (v .2), rw (← add-assoc) (sym (store-next _ _ (part-left (at .before .args .part .now) (at .loop .i) (omega arith))) ∙ v .3))
+    let more = part-left (at .before .args .part .now) (at .loop .i) (omega arith) in
+    (omega arith, v .1, simp length-set (v .2), rw (← add-assoc) (sym (store-next _ _ more) ∙ v .3))
 
 same-length : tie.Need-same-length Inv-loop μ-loop
 same-length c = c .before .loop .inv .2

@@ -52,7 +52,8 @@ copy-requires : tie.Need-copy-requires Inv-loop μ-loop
 copy-requires c κs =
     let g = c .before .before .before .before .before .before .before in
     let v = next-fits (g .before .before .loop .inv) (g .before .loop-test .taken) (g .run-at .ensures .0) in
-    let l = cleared-long (g .before .before .loop .inv) (g .run-at .result .offset - g .before .before .loop .k) (c .before .before .before .before .clear .ensures) in
+    let at = g .before .before .loop in
+    let l = cleared-long (at .inv) (g .run-at .result .offset - at .k) (c .before .before .before .before .clear .ensures) in
     simp (length-take, length-drop) (omega (arith, v .within))
 
 add-k : tie.Need-add-k Inv-loop μ-loop
@@ -76,10 +77,14 @@ clear-requires-2 : tie.Need-clear-requires-2 Inv-loop μ-loop
 clear-requires-2 c κs = (c .before .before .loop .inv .low, omega (arith, c .before .before .loop .inv .long))
 
 same-length : tie.Need-same-length Inv-loop μ-loop
-same-length c = ap length (c .before .before .clear2 .ensures) ∙ simp length-sets (c .before .before .before .before .before .loop .inv .long)
+same-length c =
+    let g = c .before .before in
+    ap length (g .clear2 .ensures) ∙ simp length-sets (g .before .before .before .loop .inv .long)
 
 returns : tie.Need-returns Inv-loop μ-loop
-returns c = laid-all (c .before .before .before .before .before .loop .inv) (c .before .before .before .before .loop-test .left) (c .before .before .clear2 .ensures)
+returns c =
+    let g = c .before .before in
+    laid-all (g .before .before .before .loop .inv) (g .before .before .loop-test .left) (g .clear2 .ensures)
 
 pub write-cuts-spec : {M : Type 1} → statement M
 write-cuts-spec =

@@ -27,7 +27,8 @@ returns-2 : tie.Need-returns-2
 returns-2 c =
     let g = c .before .before .before in
     refusal-is _ _ 1
-    (refuse-size _ _ _ _ (g .sizes-of .ensures) (g .before .if1 .left) (sym (c .before .before .sizes-fit .ensures) ∙ not-true _ (c .before .if2 .taken)))
+    (refuse-size _ _ _ _ (g .sizes-of .ensures) (g .before .if1 .left)
+    (sym (c .before .before .sizes-fit .ensures) ∙ not-true _ (c .before .if2 .taken)))
     (c .refused2 .ensures)
 
 is-beyond-requires : tie.Need-is-beyond-requires
@@ -41,7 +42,8 @@ returns-3 c =
     let g = c .before .before .before in
     refusal-is _ _ 12
     (refuse-bench _ _ _ _ (g .before .before .sizes-of .ensures) (g .before .before .before .if1 .left)
-    (sym (g .before .sizes-fit .ensures) ∙ not-false _ (g .if2 .left)) (sym (c .before .before .is-beyond .ensures) ∙ c .before .if3 .taken))
+    (sym (g .before .sizes-fit .ensures) ∙ not-false _ (g .if2 .left))
+    (sym (c .before .before .is-beyond .ensures) ∙ c .before .if3 .taken))
     (c .refused3 .ensures)
 
 read-body-requires : tie.Need-read-body-requires
@@ -57,11 +59,12 @@ same-length-2 c = search needs
 
 returns-4 : tie.Need-returns-4
 returns-4 c =
-    let g = c .before .before .before .before .before .before .before .before in
+    let h = c .before .before .before .before .before .before in
+    let g = h .before .before in
     is-of
     (go-on _ _ _ _ (g .before .before .sizes-of .ensures) (g .before .before .before .if1 .left)
     (sym (g .before .sizes-fit .ensures) ∙ not-false _ (g .if2 .left))
-    (sym (c .before .before .before .before .before .before .before .is-beyond .ensures) ∙ c .before .before .before .before .before .before .if3 .left))
+    (sym (h .before .is-beyond .ensures) ∙ h .if3 .left))
     (c .before .before .before .read-body .ensures)
 
 pub read-spec : {M : Type 1} → statement M

@@ -50,10 +50,11 @@ returns-3 c =
 
 write-tables-requires : tie.Need-write-tables-requires
 write-tables-requires c κs =
-    let a = c .before .before .before .before .before .before in
+    let g = c .before .before in
+    let a = g .before .before .before .before in
     let small = points-small (a .before .before .before .args .s) (a .before .before .before .pre) in (
-      (omega (arith, small, a .point-count .ensures), sym (c .before .before .before .is-well-formed .ensures) ∙ not-false _ (c .before .before .if3 .left)),
-      (c .before .before .before .before .before .if1 .left, c .before .before .before .before .if2 .left),
+      (omega (arith, small, a .point-count .ensures), sym (g .before .is-well-formed .ensures) ∙ not-false _ (g .if3 .left)),
+      (g .before .before .before .if1 .left, g .before .before .if2 .left),
     )
 
 end-of-requires : tie.Need-end-of-requires
@@ -73,11 +74,11 @@ same-length-2 c = search needs
 
 returns-4 : tie.Need-returns-4
 returns-4 c =
+    let t = c .before .before .before .before .write-tables .ensures in
     let g = c .before .before .before .before .before .before .before in
     let a = g .before .before .before .before in
     take-block _ _ _ _ (a .point-count .ensures) (g .before .before .before .if1 .left) (g .before .before .if2 .left)
-    (sym (g .before .is-well-formed .ensures) ∙ not-false _ (g .if3 .left))
-    (c .before .before .before .before .write-tables .ensures .0) (c .before .before .before .before .write-tables .ensures .1) (c .end-of .ensures)
+    (sym (g .before .is-well-formed .ensures) ∙ not-false _ (g .if3 .left)) (t .0) (t .1) (c .end-of .ensures)
 
 pub read-body-spec : {M : Type 1} → statement M
 read-body-spec =
