@@ -32,7 +32,8 @@ module _ {A : Type 0} where
   append-once : (l m : List A) → NoRepeats l → NoRepeats m → ((a : A) → Member a l → Member a m → ⊥) → NoRepeats (l ++ m)
   append-once [] m p q d = q
   append-once (x ∷ l) m (more n p) q d =
-      more {x = x} (λ i. elim (append-cases l {m = m} i) [ inl j ↦ n j | inr j ↦ d x here j ]) (append-once l m p q (λ a i j. d a (there i) j))
+      more {x = x} (λ i. elim (append-cases l {m = m} i) [ inl j ↦ n j | inr j ↦ d x here j ])
+      (append-once l m p q (λ a i j. d a (there i) j))
 
 -- a list of elements of a finite type, by a test
 module _ {A : Type 0} (F : Finite A) where
@@ -87,7 +88,8 @@ module _ {A B : Type 0} (f : A → List B) where
   gather-part (x ∷ l) m = elim (append-cases (f x) m) [ inl q ↦ (x, here, q) | inr q ↦ later (gather-part l q) ]
 
   -- nothing stands twice if not in the list of parts, not in a part and not in two parts
-  pub gather-once : (l : List A) → NoRepeats l → ((x : A) → NoRepeats (f x)) → ((x z : A) (y : B) → Member y (f x) → Member y (f z) → x ≡ z) → NoRepeats (gather f l)
+  pub gather-once : (l : List A) → NoRepeats l → ((x : A) → NoRepeats (f x))
+      → ((x z : A) (y : B) → Member y (f x) → Member y (f z) → x ≡ z) → NoRepeats (gather f l)
   unfolding gather
   gather-once [] p q d = empty
   gather-once (x ∷ l) (more n p) q d =
@@ -122,7 +124,8 @@ module _ {A B : Type 0} (f : A → List B) where
     found-at here h = (r, first h refl)
     found-at {l = z ∷ l} (there m) h = let u = found-at m h in (length (f z) + u .0, after (u .1) refl)
 
-  find-step : (z : A) (l : List A) (j : ℕ) → j < length (f z ++ gather f l) → ((k : ℕ) → k < length (gather f l) → (x : A) × (r : ℕ) × Found x r l k)
+  find-step : (z : A) (l : List A) (j : ℕ) → j < length (f z ++ gather f l)
+      → ((k : ℕ) → k < length (gather f l) → (x : A) × (r : ℕ) × Found x r l k)
       → (j < length (f z)) ⊎ (length (f z) ≤ j) → (x : A) × (r : ℕ) × Found x r (z ∷ l) j
   find-step z l j h rec (inl p) = (z, j, first p refl)
   find-step z l j h rec (inr p) =
@@ -139,7 +142,9 @@ module _ {A B : Type 0} (f : A → List B) where
   found-same (first h e) (first g d) = (refl, omega arith)
   found-same (first h e) (after q d) = absurd (omega arith)
   found-same (after p e) (first g d) = absurd (omega arith)
-  found-same {z = y} {s = s} (after {l = l} {k = k} p e) (after {k = j} q d) = let i : j ≡ k = omega arith in found-same p (subst (λ (i : ℕ). Found y s l i) i q)
+  found-same {z = y} {s = s} (after {l = l} {k = k} p e) (after {k = j} q d) =
+      let i : j ≡ k = omega arith in
+      found-same p (subst (λ (i : ℕ). Found y s l i) i q)
 
   pub found-once : {x : A} {r : ℕ} {l : List A} {k j : ℕ} → NoRepeats l → Found x r l k → Found x r l j → k ≡ j
   found-once (more n o) (first h e) (first g d) = omega arith

@@ -44,7 +44,8 @@ module _ {A : Type 0} (f : A → Bool) where
   keep-i {a = a} here t = rw (T-true (f a) t) here
   keep-i {l = x ∷ xs} (there m) t = keep-step x (f x) (keep-i m t)
 
-  kept-step : {a x : A} {xs : List A} (l : List A) → (Member a xs → Member a l × T (f a)) → (b : Bool) → f x ≡ b → Member a (if b then x ∷ xs else xs) → Member a (x ∷ l) × T (f a)
+  kept-step : {a x : A} {xs : List A} (l : List A) → (Member a xs → Member a l × T (f a)) → (b : Bool) → f x ≡ b
+      → Member a (if b then x ∷ xs else xs) → Member a (x ∷ l) × T (f a)
   kept-step {x = x} l h true e here = (here, true-T (f x) e)
   kept-step l h true e (there p) = let r = h p in (there (r .0), r .1)
   kept-step l h false e p = let r = h p in (there (r .0), r .1)

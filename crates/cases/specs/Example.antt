@@ -1,6 +1,6 @@
 -- A call of filling and calls of the place of an id, with all that separate software answered and wrote.
 use Prim.Native.Nat.{ℕ, _-_}
-use mathlib.Core.List.{List, [], _∷_, _++_, map}
+use mathlib.Core.List.{List, _++_, map}
 use lib.IntN.{ℤ, pos, negℤ}
 use lib.ListN.{length}
 use Rattle.basics.specs.Table.{Entry, entered, tableOf}

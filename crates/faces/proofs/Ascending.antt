@@ -99,7 +99,8 @@ module _ (f g : Vertex → ℕ) (hf : Ascending f) (hg : Ascending g) where
   up a b u w p q l = rank-up g hg u w (omega arith)
 
   -- a side of f whose corners g has is a side of g
-  pub same-side : (q : Vertex) → ((t : Third) → (u : Vertex) × (g u ≡ f (side q t))) → (w : Vertex) × ((t : Third) → g (side w t) ≡ f (side q t))
+  pub same-side : (q : Vertex) → ((t : Third) → (u : Vertex) × (g u ≡ f (side q t)))
+      → (w : Vertex) × ((t : Third) → g (side w t) ≡ f (side q t))
   same-side q u = (w .0, λ t. ap g (w .1 t) ∙ u t .1)
     where
       w : (w : Vertex) × ((t : Third) → side w t ≡ u t .0)

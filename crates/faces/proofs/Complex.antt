@@ -76,7 +76,8 @@ pub record Fits (C : Complex) : Type 0 where
       → (b : Bool) → C .vertex i (tip b x) ≡ C .vertex j (tip b y)
   pub id-same : (i j : C .Cell) → C .In i → C .In j → (x y : Entry Vertex) → ((b : Bool) → C .vertex i (tip b x) ≡ C .vertex j (tip b y))
       → C .id i x ≡ C .id j y
-  pub skin : (i : C .Cell) → C .In i → (x : Entry Vertex) → (tip false x ≡ tip true x → labelsOf C i (tip false x) ≡ Zero) → C .Skin (C .id i x)
+  pub skin : (i : C .Cell) → C .In i → (x : Entry Vertex) → (tip false x ≡ tip true x → labelsOf C i (tip false x) ≡ Zero)
+      → C .Skin (C .id i x)
 
 -- a face of the r-th row of the cell i: in exactly one other row, wound the opposite way; or in no other, and on the skin
 pub data Fine (C : Complex) (i : C .Cell) (r : ℕ) (v : Vertex) : Type 0 where
@@ -90,10 +91,15 @@ pub data Fine (C : Complex) (i : C .Cell) (r : ℕ) (v : Vertex) : Type 0 where
 mapFace-lift : {A B D : Type 0} (g : B → D) (f : A → B) (x : Face A) → mapFace g (mapFace f x) ≡ mapFace (λ y. g (f y)) x
 mapFace-lift g f (face x y z) = refl
 
+opposite-rows : {A B : Type 0} (f : A → B) (x y : Row A) (v w : Vertex) → Opposite (faceOf x v) (faceOf y w)
+    → Opposite (faceOf (mapRow f x) v) (faceOf (mapRow f y) w)
+opposite-rows f x y v w o = subst₂ Opposite (sym (faceOf-map f x v)) (sym (faceOf-map f y w)) (opposite-map f o)
+
 module _ (C : Complex) (F : Fits C) where
   module _ (i : C .Cell) (hi : C .In i) (r : ℕ) (hr : r < length (cellRows C i)) (v : Vertex) where
     face-at : (t : Third) → faceAt (idFace C i r v) t ≡ C .id i (faceAt (cellFace C i r v) t)
-    face-at t = ap (λ (g : Face ℕ). faceAt g t) (faceOf-map (C .id i) (rowIn (cellRows C i) r) v) ∙ faceAt-map (C .id i) (cellFace C i r v) t
+    face-at t =
+        ap (λ (g : Face ℕ). faceAt g t) (faceOf-map (C .id i) (rowIn (cellRows C i) r) v) ∙ faceAt-map (C .id i) (cellFace C i r v) t
 
     face-ordered : (t : Third) → Ordered (faceAt (cellFace C i r v) t)
     face-ordered t =
@@ -101,8 +107,8 @@ module _ (C : Complex) (F : Fits C) where
         subst Ordered (o .1) (ordered (C .winding i) (labelsOf C i) r hr (o .0))
 
     -- the entries of a row that holds the face stand on the vertices that the face's entries stand on
-    seen : (m : C .Cell) (k : ℕ) → Held C m k (idFace C i r v)
-        → (t : Third) → (w : Vertex) × ((b : Bool) → C .vertex m (tip b (rowAt (rowIn (cellRows C m) k) w)) ≡ C .vertex i (tip b (faceAt (cellFace C i r v) t)))
+    seen : (m : C .Cell) (k : ℕ) → Held C m k (idFace C i r v) → (t : Third) → (w : Vertex)
+        × ((b : Bool) → C .vertex m (tip b (rowAt (rowIn (cellRows C m) k) w)) ≡ C .vertex i (tip b (faceAt (cellFace C i r v) t)))
     seen m k h t =
         let w = h .holds t in (
           w .0,
@@ -110,11 +116,15 @@ module _ (C : Complex) (F : Fits C) where
               (sym (rowAt-map (C .id m) (rowIn (cellRows C m) k) (w .0)) ∙ w .1 ∙ face-at t),
         )
 
-    reached : (m : C .Cell) (k : ℕ) → Held C m k (idFace C i r v) → (u : Vertex) → Covers (cellFace C i r v) u → (x : Vertex) × (C .vertex m x ≡ C .vertex i u)
-    reached m k h u c = let w = seen m k h (c .0) in (tip (c .1) (rowAt (rowIn (cellRows C m) k) (w .0)), w .1 (c .1) ∙ ap (C .vertex i) (c .2))
+    reached : (m : C .Cell) (k : ℕ) → Held C m k (idFace C i r v) → (u : Vertex) → Covers (cellFace C i r v) u
+        → (x : Vertex) × (C .vertex m x ≡ C .vertex i u)
+    reached m k h u c =
+        let w = seen m k h (c .0) in
+        (tip (c .1) (rowAt (rowIn (cellRows C m) k) (w .0)), w .1 (c .1) ∙ ap (C .vertex i) (c .2))
 
     -- in the face's own cell, by corners
-    locally : (m : C .Cell) (k : ℕ) → Held C m k (idFace C i r v) → m ≡ i → (k < length (cellRows C i)) × Holds (rowIn (cellRows C i) k) (cellFace C i r v)
+    locally : (m : C .Cell) (k : ℕ) → Held C m k (idFace C i r v) → m ≡ i
+        → (k < length (cellRows C i)) × Holds (rowIn (cellRows C i) k) (cellFace C i r v)
     locally m k h e =
         let p : Held C i k (idFace C i r v) = subst (λ (x : C .Cell). Held C x k (idFace C i r v)) e h in
         (p .inside, λ t. let w = seen i k p t in (w .0, entry-inj (C .vertex i) (F .ascending i hi) _ _ (w .1)))
@@ -122,7 +132,8 @@ module _ (C : Complex) (F : Fits C) where
     -- a face on all four vertices is held by rows of its own cell only
     own-cell : ((u : Vertex) → Covers (cellFace C i r v) u) → (m : C .Cell) (k : ℕ) → Held C m k (idFace C i r v) → m ≡ i
     own-cell c m k h =
-        sym (F .same i m hi (h .cell) (same-four (C .vertex i) (C .vertex m) (F .ascending i hi) (F .ascending m (h .cell)) (λ u. reached m k h u (c u))))
+        sym (F .same i m hi (h .cell)
+        (same-four (C .vertex i) (C .vertex m) (F .ascending i hi) (F .ascending m (h .cell)) (λ u. reached m k h u (c u))))
 
     on-skin : Zeros (labelsOf C i) (cellFace C i r v) → (t : Third) → C .Skin (faceAt (idFace C i r v) t)
     on-skin z t = subst (C .Skin) (sym (face-at t)) (F .skin i hi (faceAt (cellFace C i r v) t) (z t))
@@ -135,12 +146,14 @@ module _ (C : Complex) (F : Fits C) where
     -- a cell whose row holds the face has the side
     shares : (m : C .Cell) (k : ℕ) → Held C m k (idFace C i r v) → (w : Vertex) × Shares C m w i q
     shares m k h =
-        same-side (C .vertex i) (C .vertex m) (F .ascending i hi) (F .ascending m (h .cell)) q (λ u. reached i hi r hr v m k h (side q u) (c u))
+        same-side (C .vertex i) (C .vertex m) (F .ascending i hi) (F .ascending m (h .cell)) q
+        (λ u. reached i hi r hr v m k h (side q u) (c u))
 
     here-once : (m : C .Cell) (k : ℕ) → Held C m k (idFace C i r v) → m ≡ i → (m ≡ i) × (k ≡ r)
     here-once m k h d = let p = locally i hi r hr v m k h d in (d, a k (p .0) (p .1))
 
-    module _ (j : C .Cell) (u : Vertex) (hj : C .In j) (ne : i ≡ j → ⊥) (sh : Shares C j u i q) (o : outward (C .winding j) u ≡ not (outward (C .winding i) q))
+    module _ (j : C .Cell) (u : Vertex) (hj : C .In j) (ne : i ≡ j → ⊥) (sh : Shares C j u i q)
+        (o : outward (C .winding j) u ≡ not (outward (C .winding i) q))
         (only : (m : C .Cell) (w : Vertex) → C .In m → Shares C m w i q → (m ≡ i) ⊎ (m ≡ j)) where
       abbrev τ : Face (Entry Third)
       τ = getD (onSide (labelsOf C i) q) n noFace
@@ -154,7 +167,8 @@ module _ (C : Complex) (F : Fits C) where
       same-faces = λ x. onTriangle (λ t. C .label (sh t x))
 
       same-ids : (x : Entry Third) → C .id j (mapEntry (side u) x) ≡ onto x
-      same-ids (between a b) = F .id-same j i hj hi (between (side u a) (side u b)) (between (side q a) (side q b)) (elim [ true ↦ sh b | false ↦ sh a ])
+      same-ids (between a b) =
+          F .id-same j i hj hi (between (side u a) (side u b)) (between (side q a) (side q b)) (elim [ true ↦ sh b | false ↦ sh a ])
 
       face-here : idFace C i r v ≡ mapFace onto (turned t (wound (outward (C .winding i) q) τ))
       unfolding shown
@@ -162,7 +176,8 @@ module _ (C : Complex) (F : Fits C) where
           faceOf-map (C .id i) (rowIn (cellRows C i) r) v ∙ ap (mapFace (C .id i)) e
           ∙ mapFace-lift (C .id i) (mapEntry (side q)) (turned t (wound (outward (C .winding i) q) τ))
 
-      face-there : (D : Showing (C .winding j) (labelsOf C j) u n) → idFace C j (D .r) (D .v) ≡ mapFace onto (turned (D .t) (wound (not (outward (C .winding i) q)) τ))
+      face-there : (D : Showing (C .winding j) (labelsOf C j) u n)
+          → idFace C j (D .r) (D .v) ≡ mapFace onto (turned (D .t) (wound (not (outward (C .winding i) q)) τ))
       unfolding shown
       face-there D =
           faceOf-map (C .id j) (rowIn (cellRows C j) (D .r)) (D .v) ∙ ap (mapFace (C .id j)) (D .is)
@@ -170,10 +185,14 @@ module _ (C : Complex) (F : Fits C) where
           ∙ (λ x. mapFace (λ y. same-ids y x) (turned (D .t) (wound (o x) (getD (same-faces x) n noFace))))
 
       paired : Showing (C .winding j) (labelsOf C j) u n → Fine C i r v
-      paired D = two j (D .r) (D .v) hj (D .inside) (λ d _. ne d) opp (λ m k h. let w = shares m k h in go m k h (only m (w .0) (h .cell) (w .1)))
+      paired D =
+          two j (D .r) (D .v) hj (D .inside) (λ d _. ne d) opp
+          (λ m k h. let w = shares m k h in go m k h (only m (w .0) (h .cell) (w .1)))
         where
           opp : Opposite (idFace C i r v) (idFace C j (D .r) (D .v))
-          opp = subst₂ Opposite (sym face-here) (sym (face-there D)) (opposite-map onto (opposite-wound (outward (C .winding i) q) τ t (D .t)))
+          opp =
+              subst₂ Opposite (sym face-here) (sym (face-there D))
+              (opposite-map onto (opposite-wound (outward (C .winding i) q) τ t (D .t)))
 
           there : (m : C .Cell) (k : ℕ) → Held C m k (idFace C i r v) → Held C m k (idFace C j (D .r) (D .v))
           there m k h = record { cell = h .cell; inside = h .inside; holds = holds-opposite (idRow C m k) opp (h .holds) }
@@ -183,30 +202,45 @@ module _ (C : Complex) (F : Fits C) where
           go m k h (inr d) = let p = locally j hj (D .r) (D .inside) (D .v) m k (there m k h) d in inr (d, D .only k (p .0) (p .1))
 
       -- with no plus the neighbour has no rows, and the side has none
-      lone : T (not (hasPlus (labelsOf C j))) → Fine C i r v
+      no-plus : T (not (hasPlus (labelsOf C j))) → (t : Third) → labelsOf C i (side q t) ≡ Plus → ⊥
       unfolding hasPlus
+      no-plus p t y =
+          T-not (hasPlus (labelsOf C j)) p
+          (any-i (λ v. isPlus (labelsOf C j v)) (theVertices .complete (side u t)) (isPlus-i _ (ap (C .label) (sh t) ∙ y)))
+
+      lone : T (not (hasPlus (labelsOf C j))) → Fine C i r v
       lone p =
-          one (λ m k h. let w = shares m k h in go m k h (only m (w .0) (h .cell) (w .1)))
-          (on-skin i hi r hr v (z (λ t y. T-not (hasPlus (labelsOf C j)) p (any-i (λ v. isPlus (labelsOf C j v)) (theVertices .complete (side u t)) (isPlus-i _ (ap (C .label) (sh t) ∙ y))))))
+          one (λ m k h. let w = shares m k h in go m k h (only m (w .0) (h .cell) (w .1))) (on-skin i hi r hr v (z (no-plus p)))
         where
           go : (m : C .Cell) (k : ℕ) → Held C m k (idFace C i r v) → (m ≡ i) ⊎ (m ≡ j) → (m ≡ i) × (k ≡ r)
           go m k h (inl d) = here-once m k h d
-          go m k h (inr d) = absurd (T-not (hasPlus (labelsOf C j)) p (has-plus (C .winding j) (labelsOf C j) k (subst (λ (x : C .Cell). k < length (cellRows C x)) d (h .inside))))
+          go m k h (inr d) =
+              let l : k < length (cellRows C j) = subst (λ (x : C .Cell). k < length (cellRows C x)) d (h .inside) in
+              absurd (T-not (hasPlus (labelsOf C j)) p (has-plus (C .winding j) (labelsOf C j) k l))
 
     side-fine : Across C i q → Fine C i r v
     side-fine (neighbour j u hj ne sh o only) = elim (decide (hasPlus (labelsOf C j))) [
-      | inl p ↦ paired j u hj ne sh o only (shown-once (C .winding j) (labelsOf C j) p u n (subst (λ (l : List (Face (Entry Third))). n < length l) (sym (same-faces j u hj ne sh o only)) hn))
+      | inl p ↦ paired j u hj ne sh o only (shown-once (C .winding j) (labelsOf C j) p u n (rw (same-faces j u hj ne sh o only) hn))
       | inr p ↦ lone j u hj ne sh o only p
     ]
-    side-fine (outside only np) = one (λ m k h. let w = shares m k h in here-once m k h (only m (w .0) (h .cell) (w .1))) (on-skin i hi r hr v (z np))
+    side-fine (outside only np) =
+        one (λ m k h. let w = shares m k h in here-once m k h (only m (w .0) (h .cell) (w .1))) (on-skin i hi r hr v (z np))
 
   module _ (i : C .Cell) (hi : C .In i) (r : ℕ) (hr : r < length (cellRows C i)) (v : Vertex) where
     fate-fine : Fate (C .winding i) (labelsOf C i) r v → Fine C i r v
     fate-fine (inner m w hm ne o c only) =
-        two i m w hi hm (λ _ d. ne d) (subst₂ Opposite (sym (faceOf-map (C .id i) (rowIn (cellRows C i) r) v)) (sym (faceOf-map (C .id i) (rowIn (cellRows C i) m) w)) (opposite-map (C .id i) o))
-        (λ k s h. let d = own-cell i hi r hr v c k s h in let p = locally i hi r hr v k s h d in elim (only s (p .0) (p .1)) [ inl x ↦ inl (d, x) | inr x ↦ inr (d, x) ])
+        two i m w hi hm (λ _ d. ne d) (opposite-rows (C .id i) (rowIn (cellRows C i) r) (rowIn (cellRows C i) m) v w o)
+        (λ k s h.
+        let d = own-cell i hi r hr v c k s h in
+        let p = locally i hi r hr v k s h d in
+        elim (only s (p .0) (p .1)) [ inl x ↦ inl (d, x) | inr x ↦ inr (d, x) ])
     fate-fine (free c a z) =
-        one (λ k s h. let d = own-cell i hi r hr v c k s h in let p = locally i hi r hr v k s h d in (d, a s (p .0) (p .1))) (on-skin i hi r hr v z)
+        one
+        (λ k s h.
+        let d = own-cell i hi r hr v c k s h in
+        let p = locally i hi r hr v k s h d in
+        (d, a s (p .0) (p .1)))
+        (on-skin i hi r hr v z)
     fate-fine (on-side q n t hn e c a z) = side-fine i hi r hr v q n t hn e c a z (F .across i hi q)
 
     pub every-face : Fine C i r v

@@ -28,11 +28,14 @@ tetrahedron-path t u a e h = λ i. record { axis = a i; cube = λ c. h c i; edge
 abbrev pub sideAt : Tetrahedron → Vertex → Side
 sideAt t q = (t .axis, (t .edge, q))
 
+abbrev pub beyond : Tetrahedron → Vertex → Neighbour
+beyond t q = nextTo (sideAt t q)
+
 -- u is the neighbour of t across q
 pub record Beside (t : Tetrahedron) (q : Vertex) (u : Tetrahedron) : Type 0 where
-  pub axis : u .axis ≡ nextTo (sideAt t q) .axis
-  pub edge : u .edge ≡ nextTo (sideAt t q) .edge
-  pub cube : (c : Axis) → u .cube c + nextTo (sideAt t q) .down c ≡ t .cube c + nextTo (sideAt t q) .up c
+  pub axis : u .axis ≡ beyond t q .axis
+  pub edge : u .edge ≡ beyond t q .edge
+  pub cube : (c : Axis) → u .cube c + beyond t q .down c ≡ t .cube c + beyond t q .up c
 
 pub beside-one : (t : Tetrahedron) (q : Vertex) (u w : Tetrahedron) → Beside t q u → Beside t q w → u ≡ w
 beside-one t q u w x y =
@@ -60,9 +63,11 @@ module _ (s : Sizes) where
       k = same-type (t .axis) (u .axis) (t .edge) (u .edge) (λ v c. omega (arith, at v c, cubes c))
 
   -- who has the side is the tetrahedron itself or its neighbour
-  pub who-shares : (t u : Tetrahedron) (q w : Vertex) → Valid s t → Valid s u → ((i : Third) → cornerNumber s u (side w i) ≡ cornerNumber s t (side q i)) → (u ≡ t) ⊎ Beside t q u
+  pub who-shares : (t u : Tetrahedron) (q w : Vertex) → Valid s t → Valid s u
+      → ((i : Third) → cornerNumber s u (side w i) ≡ cornerNumber s t (side q i)) → (u ≡ t) ⊎ Beside t q u
   who-shares t u q w ht hu e = elim (next-only (sideAt t q) (sideAt u w) (λ i. sym (at i .0)) (λ i c. omega (arith, at i .1 c, at t0 .1 c))) [
-    | inl p ↦ inl (tetrahedron-path u t (ap (λ (x : Side). x .0) p) (ap (λ (x : Side). x .1 .0) p) (λ c. omega (arith, at t0 .1 c, ap (λ (x : Side). sideOffset x t0 c) p)))
+    | inl p ↦ inl (tetrahedron-path u t (ap (λ (x : Side). x .0) p) (ap (λ (x : Side). x .1 .0) p)
+        (λ c. omega (arith, at t0 .1 c, ap (λ (x : Side). sideOffset x t0 c) p)))
     | inr p ↦ inr (record {
       axis = ap (λ (x : Side). x .0) p;
       edge = ap (λ (x : Side). x .1 .0) p;
@@ -70,23 +75,27 @@ module _ (s : Sizes) where
     })
   ]
     where
-      at : (i : Third) → (sideKind (sideAt u w) i ≡ sideKind (sideAt t q) i) × ((c : Axis) → u .cube c + sideOffset (sideAt u w) i c ≡ t .cube c + sideOffset (sideAt t q) i c)
+      at : (i : Third) → (sideKind (sideAt u w) i ≡ sideKind (sideAt t q) i)
+          × ((c : Axis) → u .cube c + sideOffset (sideAt u w) i c ≡ t .cube c + sideOffset (sideAt t q) i c)
       at i = corner-of u t hu ht (side w i) (side q i) (e i)
 
   -- the neighbour has the side
-  pub beside-shares : (t u : Tetrahedron) (q : Vertex) → Beside t q u → (i : Third) → cornerNumber s u (side (nextTo (sideAt t q) .corner) i) ≡ cornerNumber s t (side q i)
+  pub beside-shares : (t u : Tetrahedron) (q : Vertex) → Beside t q u → (i : Third)
+      → cornerNumber s u (side (beyond t q .corner) i) ≡ cornerNumber s t (side q i)
   unfolding cornerNumber corner
   beside-shares t u q b i = λ x. number s (sym (next-kind (sideAt t q) i) x) (λ c. at c x)
     where
-      at : (c : Axis) → u .cube c + offset (u .axis) (u .edge) (side (nextTo (sideAt t q) .corner) i) c ≡ t .cube c + sideOffset (sideAt t q) i c
+      at : (c : Axis) → u .cube c + offset (u .axis) (u .edge) (side (beyond t q .corner) i) c ≡ t .cube c + sideOffset (sideAt t q) i c
       at c =
-          let e : offset (u .axis) (u .edge) (side (nextTo (sideAt t q) .corner) i) c ≡ sideOffset (sideOf (nextTo (sideAt t q))) i c
-          = λ x. offset (b .axis x) (b .edge x) (side (nextTo (sideAt t q) .corner) i) c in
+          let e : offset (u .axis) (u .edge) (side (beyond t q .corner) i) c ≡ sideOffset (sideOf (beyond t q)) i c
+          = λ x. offset (b .axis x) (b .edge x) (side (beyond t q .corner) i) c in
           omega (arith, b .cube c, next-offset (sideAt t q) i c)
 
   -- along an axis the neighbour stays in the block, or it does not and the side is outermost
   abbrev Stays : Tetrahedron → Vertex → Axis → Type 0
-  Stays t q c = (nextTo (sideAt t q) .down c ≤ t .cube c + nextTo (sideAt t q) .up c) × (t .cube c + nextTo (sideAt t q) .up c + unit (nextTo (sideAt t q) .axis) c < size s c + nextTo (sideAt t q) .down c)
+  Stays t q c =
+      (beyond t q .down c ≤ t .cube c + beyond t q .up c)
+      × (t .cube c + beyond t q .up c + unit (beyond t q .axis) c < size s c + beyond t q .down c)
 
   abbrev Leaves : Tetrahedron → Vertex → Axis → Type 0
   Leaves t q c = (Stays t q c → ⊥) × ((i : Third) → (corner t (side q i) c ≡ 0) ⊎ (corner t (side q i) c + 1 ≡ grid s (kind (side q i)) c))
@@ -100,9 +109,10 @@ module _ (s : Sizes) where
   stays-or t q h c = go (lt-or (t .cube c + N .up c) (N .down c)) (lt-or (t .cube c + N .up c + unit (N .axis) c) (size s c + N .down c))
     where
       N : Neighbour
-      N = nextTo (sideAt t q)
+      N = beyond t q
 
-      go : (t .cube c + N .up c < N .down c) ⊎ (N .down c ≤ t .cube c + N .up c) → (t .cube c + N .up c + unit (N .axis) c < size s c + N .down c) ⊎ (size s c + N .down c ≤ t .cube c + N .up c + unit (N .axis) c)
+      go : (t .cube c + N .up c < N .down c) ⊎ (N .down c ≤ t .cube c + N .up c)
+          → (t .cube c + N .up c + unit (N .axis) c < size s c + N .down c) ⊎ (size s c + N .down c ≤ t .cube c + N .up c + unit (N .axis) c)
           → Stays t q c ⊎ Leaves t q c
       go (inl l) m =
           let r = next-low (sideAt t q) c (omega arith) in
@@ -135,7 +145,8 @@ somewhere-i f along-z t = or-r (f along-x) _ (or-r (f along-y) (f along-z) t)
 -- a side has its neighbour in the block, or none and it is on the rim
 pub data Next (s : Sizes) (t : Tetrahedron) (q : Vertex) : Type 0 where
   inside : (u : Tetrahedron) → Valid s u → Beside t q u → Next s t q
-  on-rim : ((u : Tetrahedron) → Valid s u → Beside t q u → ⊥) → ((i : Third) → T (rimAt s (kind (side q i)) (corner t (side q i)))) → Next s t q
+  on-rim : ((u : Tetrahedron) → Valid s u → Beside t q u → ⊥)
+      → ((i : Third) → T (rimAt s (kind (side q i)) (corner t (side q i)))) → Next s t q
 
 pub next-of : (s : Sizes) (t : Tetrahedron) (q : Vertex) → Valid s t → Next s t q
 unfolding rimAt outermost
@@ -147,8 +158,8 @@ next-of s t q h = go (every-or (Stays s t q) (Leaves s t q) (stays-or s t q h))
 
     go : ((c : Axis) → Stays s t q c) ⊎ ((c : Axis) × Leaves s t q c) → Next s t q
     go (inl f) =
-        inside (record { axis = nextTo (sideAt t q) .axis; edge = nextTo (sideAt t q) .edge; cube = λ c. t .cube c + nextTo (sideAt t q) .up c - nextTo (sideAt t q) .down c })
+        inside (record { axis = beyond t q .axis; edge = beyond t q .edge; cube = λ c. t .cube c + beyond t q .up c - beyond t q .down c })
         (λ c. omega (arith, f c)) (record { axis = refl; edge = refl; cube = λ c. omega (arith, f c) })
     go (inr l) =
-        on-rim (λ u v b. let e : unit (u .axis) (l .0) ≡ unit (nextTo (sideAt t q) .axis) (l .0) = ap (λ (a : Axis). unit a (l .0)) (b .axis) in l .1 .0 (omega (arith, b .cube (l .0), v (l .0))))
+        on-rim (λ u v b. l .1 .0 (omega (arith, b .cube (l .0), v (l .0), ap (λ (a : Axis). unit a (l .0)) (b .axis))))
         (λ i. somewhere-i (λ c. outermost (grid s (kind (side q i)) c) (corner t (side q i) c)) (l .0) (outer _ _ (l .1 .1 i)))

@@ -8,7 +8,10 @@ pub mod Neighbour
 pub mod NeighbourTests
 pub mod NeighbourLaws
 pub mod Lattice
+pub mod EdgeTests
 pub mod Ids
 pub mod Signed
 pub mod LatticeComplex
 pub mod Faces
+pub mod EntryTests
+pub mod RowIds

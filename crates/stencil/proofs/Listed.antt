@@ -38,14 +38,16 @@ module _ (s : Sizes) (a : Axis) where
   abbrev room : Axis → ℕ
   room c = size s c - unit a c
 
-  line-is : {t : Tetrahedron} (z y : ℕ) → Member t (inLine s a z y) → (x : ℕ) × (x < room along-x) × (e : Quarter) × (t ≡ tetrahedron a z y x e)
+  line-is : {t : Tetrahedron} (z y : ℕ) → Member t (inLine s a z y)
+      → (x : ℕ) × (x < room along-x) × (e : Quarter) × (t ≡ tetrahedron a z y x e)
   unfolding inLine
   line-is z y m =
       let p = gather-part (inCube a z y) (below (room along-x)) m in
       let q = cube-is a z y (p .0) (p .2) in
       (p .0, below-lt _ (p .1), q .0, q .1)
 
-  layer-is : {t : Tetrahedron} (z : ℕ) → Member t (inLayer s a z) → (y x : ℕ) × (y < room along-y) × (x < room along-x) × (e : Quarter) × (t ≡ tetrahedron a z y x e)
+  layer-is : {t : Tetrahedron} (z : ℕ) → Member t (inLayer s a z)
+      → (y x : ℕ) × (y < room along-y) × (x < room along-x) × (e : Quarter) × (t ≡ tetrahedron a z y x e)
   unfolding inLayer
   layer-is z m =
       let p = gather-part (inLine s a z) (below (room along-y)) m in
@@ -68,7 +70,8 @@ listed-valid s t m = subst (Valid s) (sym (q .7)) fits
     p : (a : Axis) × Member a axes × Member t (inAxis s a)
     p = gather-part (inAxis s) axes m
 
-    q : (z y x : ℕ) × (z < room s (p .0) along-z) × (y < room s (p .0) along-y) × (x < room s (p .0) along-x) × (e : Quarter) × (t ≡ tetrahedron (p .0) z y x e)
+    q : (z y x : ℕ) × (z < room s (p .0) along-z) × (y < room s (p .0) along-y) × (x < room s (p .0) along-x) × (e : Quarter)
+        × (t ≡ tetrahedron (p .0) z y x e)
     q = axis-is s (p .0) (p .2)
 
     fits : Valid s (tetrahedron (p .0) (q .0) (q .1) (q .2) (q .6))
@@ -84,7 +87,8 @@ valid-listed s t h =
     (gather-i (inLayer s (t .axis)) (below-i _ (t .cube along-z) (omega (arith, h along-z)))
     (gather-i (inLine s (t .axis) (t .cube along-z)) (below-i _ (t .cube along-y) (omega (arith, h along-y)))
     (gather-i (inCube (t .axis) (t .cube along-z) (t .cube along-y)) (below-i _ (t .cube along-x) (omega (arith, h along-x)))
-    (gather-i (inTurn (t .axis) (t .cube along-z) (t .cube along-y) (t .cube along-x)) (theQuarters .complete (t .edge)) (subst (λ (u : Tetrahedron). Member u (again ∷ [])) same here)))))
+    (gather-i (inTurn (t .axis) (t .cube along-z) (t .cube along-y) (t .cube along-x)) (theQuarters .complete (t .edge))
+    (subst (λ (u : Tetrahedron). Member u (again ∷ [])) same here)))))
   where
     again : Tetrahedron
     again = tetrahedron (t .axis) (t .cube along-z) (t .cube along-y) (t .cube along-x) (t .edge)

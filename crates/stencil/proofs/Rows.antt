@@ -1,4 +1,4 @@
--- How the rows of a tetrahedron cut its sides: by that side's own three labels, wherever the fourth corner stands in the order of numbers and
+-- How the rows of a tetrahedron cut its sides: by that side's own three labels, wherever the fourth corner stands in the order and
 -- whatever its label is. So two neighbours split the side that they share alike: document 01's first plausible fault is shut out. And
 -- without a plus there is no row. Computed for all 81 patterns. Assumes nothing.
 use Prim.Native.Nat.{ℕ, _+_, _*_, _-_, _^_}
@@ -14,8 +14,8 @@ use Rattle.moving.specs.declared.Label.{Label}
 use Rattle.moving.specs.declared.Label.the-variants.{Plus}
 use Rattle.moving.specs.Label.{isPlus, isMinus, isZero}
 use Rattle.moving.proofs.Labels.{theLabels}
-use Rattle.stencil.specs.Tetrahedron.{Vertex, v0, v1, v2, v3}
-use Rattle.stencil.specs.Row.{Row, row, Face, face, rowAt, faceOf}
+use Rattle.stencil.specs.Tetrahedron.{Vertex, v3}
+use Rattle.stencil.specs.Row.{row, Face, face, rowAt, faceOf}
 use Rattle.stencil.specs.Stencil.{Entry, between, rank, cut, choose, patternOf, stencilOf, rowsOf, rowsFor}
 use Rattle.stencil.proofs.Corners.{theVertices}
 

@@ -7,7 +7,7 @@ use Rattle.basics.specs.Lists.{gather, from}
 use Rattle.lattice.specs.declared.Sizes.{Sizes}
 use Rattle.lattice.specs.Counts.{cells}
 use Rattle.lattice.specs.Point.{linear}
-use Rattle.stencil.specs.Tetrahedron.{Tetrahedron, v0, v1, v2, v3, unit, around, offset, corner, cornerNumber}
+use Rattle.stencil.specs.Tetrahedron.{v0, v1, v2, v3, unit, around, offset, corner, cornerNumber}
 use Rattle.stencil.specs.Tetrahedron.{inTurn, inCube, inLine, inLayer, inAxis, tetrahedraOf}
 use Rattle.stencil.specs.Row.{Row, row}
 

@@ -4,7 +4,7 @@ use mathlib.Core.Path.{_≡_, refl, sym, _∙_}
 use mathlib.Core.Bool.{true, false}
 use Rattle.lattice.specs.declared.Sizes.{Sizes}
 use Rattle.lattice.specs.Counts.{sizesFit, cells, points, tetrahedra}
-use Rattle.yakuemi.specs.declared.Measures.{Measures}
+use Rattle.yakuemi.specs.declared.measures.Measures.{Measures}
 use Rattle.yakuemi.specs.Measures.{measure, sizes}
 
 pub measured : (s : Sizes) (p t : ℕ) → sizesFit s ≡ true → p ≡ points s → t ≡ tetrahedra s → record { number = 0; points = p; tetrahedra = t } ≡ measure s

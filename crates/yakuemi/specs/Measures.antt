@@ -3,7 +3,7 @@ use Prim.Native.Nat.{ℕ}
 use Rattle.basics.specs.Choice.{if_then_else_}
 use Rattle.lattice.specs.declared.Sizes.{Sizes}
 use Rattle.lattice.specs.Counts.{sizesFit, points, tetrahedra}
-use Rattle.yakuemi.specs.declared.Measures.{Measures}
+use Rattle.yakuemi.specs.declared.measures.Measures.{Measures}
 
 unfoldable pub measure : Sizes → Measures
 measure s =

@@ -30,13 +30,21 @@ pub fn example(title: &str, call: &Call, outcome: &Outcome, questions: &[Questio
     let state = if lent {
         "      state = as-lent;\n".to_string()
     } else {
-        field("state", "codes ", &entries(outcome.state.iter().map(|&code| code.into())))
+        field(
+            "state",
+            "codes ",
+            &entries(outcome.state.iter().map(|&code| code.into())),
+        )
     };
     let mut text = format!("{title}\n    record {{\n");
     text += &format!("      sizes = record {{ nx = {nx}; ny = {ny}; nz = {nz} }};\n");
     text += &field("samples", "", &samples(&call.block.samples));
     text += &format!("      cutsLength = {};\n", call.block.cuts.len());
-    text += &field("cuts", "", &entries(call.block.cuts.iter().map(|&t| t.into())));
+    text += &field(
+        "cuts",
+        "",
+        &entries(call.block.cuts.iter().map(|&t| t.into())),
+    );
     text += &format!("      stateLength = {};\n", call.state_length);
     text += &format!("      rowsLength = {};\n", call.row_length);
     text += &format!(
@@ -44,8 +52,16 @@ pub fn example(title: &str, call: &Call, outcome: &Outcome, questions: &[Questio
         answer.number, answer.rows, answer.moved, answer.place
     );
     text += &state;
-    text += &field("ids", "", &ids.iter().map(u32::to_string).collect::<Vec<_>>());
-    text += &field("questions", "", &questions.iter().map(question).collect::<Vec<_>>());
+    text += &field(
+        "ids",
+        "",
+        &ids.iter().map(u32::to_string).collect::<Vec<_>>(),
+    );
+    text += &field(
+        "questions",
+        "",
+        &questions.iter().map(question).collect::<Vec<_>>(),
+    );
     text + "    }\n"
 }
 
@@ -58,7 +74,9 @@ fn samples(samples: &[i16]) -> Vec<String> {
 /// The entries of a table that are not 0.
 fn entries(table: impl Iterator<Item = u32>) -> Vec<String> {
     let listed = table.enumerate().filter(|&(_, value)| value != 0);
-    listed.map(|(index, value)| format!("{index} := {value}")).collect()
+    listed
+        .map(|(index, value)| format!("{index} := {value}"))
+        .collect()
 }
 
 fn question(q: &Question) -> String {
@@ -74,13 +92,20 @@ fn field(name: &str, before: &str, items: &[String]) -> String {
         return format!("      {name} = {before}[];\n");
     }
     let list = wrapped(items, 10);
-    format!("      {name} =\n          {before}({});\n", list.trim_start())
+    format!(
+        "      {name} =\n          {before}({});\n",
+        list.trim_start()
+    )
 }
 
 /// A list over as many lines as it takes.
 fn wrapped(items: &[String], indent: usize) -> String {
     let mut lines = vec![String::new()];
-    for word in items.iter().map(|item| format!("{item} ∷ ")).chain(["[]".to_string()]) {
+    for word in items
+        .iter()
+        .map(|item| format!("{item} ∷ "))
+        .chain(["[]".to_string()])
+    {
         let line = lines.last_mut().expect("a line");
         if indent + line.chars().count() + word.chars().count() > WIDTH {
             lines.push(word);
@@ -88,7 +113,9 @@ fn wrapped(items: &[String], indent: usize) -> String {
             line.push_str(&word);
         }
     }
-    let lines = lines.iter().map(|line| format!("{}{}", " ".repeat(indent), line.trim_end()));
+    let lines = lines
+        .iter()
+        .map(|line| format!("{}{}", " ".repeat(indent), line.trim_end()));
     lines.collect::<Vec<_>>().join("\n")
 }
 

@@ -68,5 +68,8 @@ fn refused(&(damages, seed): &(&[Damage], u64)) -> (String, Call) {
         assert!(call.damage(&mut Random::new(seed), &lattice, damage));
     }
     let words: Vec<String> = damages.iter().map(|damage| format!("{damage:?}")).collect();
-    (format!("the given case with a fault: {}", words.join(" and ")), call)
+    (
+        format!("the given case with a fault: {}", words.join(" and ")),
+        call,
+    )
 }

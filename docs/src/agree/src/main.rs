@@ -23,16 +23,18 @@ pub struct Question {
 }
 
 fn main() {
-    let examples: Vec<String> = calls::all()
-        .iter()
-        .map(|(title, call)| {
-            let outcome = run(call);
-            let questions = questions(call, &outcome.state);
-            eprintln!("{title}: {:?}, {} questions", outcome.filled, questions.len());
-            antt::example(title, call, &outcome, &questions)
-        })
-        .collect();
-    print!("{}", antt::file(&examples));
+    print!("{}", written());
+}
+
+/// The whole file.
+fn written() -> String {
+    let example = |(title, call): &(String, Call)| {
+        let outcome = run(call);
+        let questions = questions(call, &outcome.state);
+        antt::example(title, call, &outcome, &questions)
+    };
+    let examples: Vec<String> = calls::all().iter().map(example).collect();
+    antt::file(&examples)
 }
 
 /// Makes the call with both fillings of the reference, which must agree.
@@ -43,7 +45,11 @@ fn run(call: &Call) -> Outcome {
         let mut state = vec![LENT_STATE; call.state_length];
         let mut rows = vec![LENT_ROW; call.row_length];
         let filled = filling(nx, ny, nz, samples, cuts, &mut state, &mut rows);
-        Outcome { filled, state, rows }
+        Outcome {
+            filled,
+            state,
+            rows,
+        }
     });
     assert_eq!(fast, plain);
     plain
@@ -89,5 +95,24 @@ fn ask(call: &Call, state: &[u8], id: usize, change: Option<(usize, u8)>) -> Que
     }
     let id = id as u32;
     let answer = place(nx, ny, nz, &call.block.cuts, &state, id);
-    Question { point, code, id, answer }
+    Question {
+        point,
+        code,
+        id,
+        answer,
+    }
+}
+
+#[cfg(test)]
+mod tests {
+    use super::*;
+
+    #[test]
+    fn the_file_is_what_this_writes() {
+        let file = include_str!("../../../../crates/cases/specs/Blocks.antt");
+        assert!(
+            file == written(),
+            "write crates/cases/specs/Blocks.antt anew"
+        );
+    }
 }

@@ -3,8 +3,8 @@ use mathlib.Core.Path.{sym, _∙_}
 use Rattle.lattice.proofs.Sized.{fits-sized}
 use Rattle.yakuemi.proofs.Measured.{measured, unmeasured}
 use borrow.Author.Needs.{needs}
-use Rattle.yakuemi.proofs.yakuemi_measures.Statement.{statement}
-use Rattle.yakuemi.proofs.yakuemi_measures.Tie as tie
+use Rattle.yakuemi.proofs.measures.yakuemi_measures.Statement.{statement}
+use Rattle.yakuemi.proofs.measures.yakuemi_measures.Tie as tie
 
 sizes-fit-requires : tie.Need-sizes-fit-requires
 sizes-fit-requires c κs = search needs

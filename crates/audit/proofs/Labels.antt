@@ -1,0 +1,66 @@
+-- Signs of samples, as the code tests them: on the number read back from its bits. Assumes nothing.
+use Prim.Native.Nat.{zero, suc, _^_, _<_}
+use native.Mathlib.Omega.{arith}
+use mathlib.Core.Path.{_≡_, refl, sym, ap, subst, _∙_}
+use mathlib.Core.Bool.{Bool, true, false}
+use lib.Dec.{T}
+use lib.IntN.{ℤ, pos, negsuc}
+use lib.Signed.{mag, ltZ}
+use borrow.Author.Tests.{lt-ltb, le-ltb, ne-eqb}
+use mir.Syntax.{w16}
+use mir.Val.{ofZ, toZ, SFits}
+use mir.ValLaws.{toZ-ofZ}
+use Rattle.moving.specs.declared.Label.{Label}
+use Rattle.moving.specs.declared.Label.the-variants.{Minus, Zero, Plus}
+use Rattle.moving.specs.Label.{labelOf, isPlus, isMinus, opposed}
+
+above : (x : ℤ) → ltZ (pos 0) x ≡ isPlus (labelOf x)
+unfolding labelOf isPlus
+above (pos zero) = refl
+above (pos (suc n)) = let h : suc n ≡ 0 → ⊥ = λ e. omega arith in simp (lt-ltb 0 (suc n) (omega arith), ne-eqb (suc n) 0 h)
+above (negsuc n) = refl
+
+beneath : (x : ℤ) → ltZ x (pos 0) ≡ isMinus (labelOf x)
+unfolding labelOf isMinus
+beneath (pos zero) = refl
+beneath (pos (suc n)) = let h : suc n ≡ 0 → ⊥ = λ e. omega arith in simp (le-ltb (suc n) 0 (omega arith), ne-eqb (suc n) 0 h)
+beneath (negsuc n) = refl
+
+module _ (x : ℤ) (f : SFits w16 x) where
+  pub plus-test : ltZ (pos 0) (toZ w16 (ofZ w16 x)) ≡ isPlus (labelOf x)
+  plus-test = ap (ltZ (pos 0)) (toZ-ofZ w16 x f) ∙ above x
+
+  pub minus-test : ltZ (toZ w16 (ofZ w16 x)) (pos 0) ≡ isMinus (labelOf x)
+  minus-test = ap (λ (z : ℤ). ltZ z (pos 0)) (toZ-ofZ w16 x f) ∙ beneath x
+
+-- a sample that was read and handed on
+handed : (x : ℤ) → mag x < 2 ^ 15 → toZ w16 (ofZ w16 x) ≡ x
+handed x h = toZ-ofZ w16 x (record { sfits = h })
+
+pub plus-handed : (x : ℤ) → mag x < 2 ^ 15 → isPlus (labelOf (toZ w16 (ofZ w16 x))) ≡ isPlus (labelOf x)
+plus-handed x h = ap (λ (z : ℤ). isPlus (labelOf z)) (handed x h)
+
+pub opposed-handed : (x y : ℤ) → mag x < 2 ^ 15 → mag y < 2 ^ 15
+    → opposed (labelOf (toZ w16 (ofZ w16 x))) (labelOf (toZ w16 (ofZ w16 y))) ≡ opposed (labelOf x) (labelOf y)
+opposed-handed x y h g = λ i. opposed (labelOf (handed x h i)) (labelOf (handed y g i))
+
+false-true : {A : Type 0} → _≡_ {A = Bool} false true → A
+false-true e = absurd (subst T (sym e) tt)
+
+pub opposed-minus : (l m : Label) → isMinus l ≡ true → opposed l m ≡ isPlus m
+unfolding isMinus opposed
+opposed-minus Minus m e = refl
+opposed-minus Zero m e = false-true e
+opposed-minus Plus m e = false-true e
+
+pub opposed-plus : (l m : Label) → isPlus l ≡ true → opposed l m ≡ isMinus m
+unfolding isPlus opposed
+opposed-plus Minus m e = false-true e
+opposed-plus Zero m e = false-true e
+opposed-plus Plus m e = refl
+
+pub opposed-none : (l m : Label) → isMinus l ≡ false → isPlus l ≡ false → opposed l m ≡ false
+unfolding isMinus isPlus opposed
+opposed-none Minus m e f = false-true (sym e)
+opposed-none Zero m e f = refl
+opposed-none Plus m e f = false-true (sym f)

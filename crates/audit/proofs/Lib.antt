@@ -1,0 +1,9 @@
+pub mod Labels
+pub mod Steps
+pub mod Faults
+pub mod Points
+pub mod Crossing
+pub mod Outside
+pub mod Reach
+pub mod CornerEnds
+pub mod CentreEnds

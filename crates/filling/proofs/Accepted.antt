@@ -1,0 +1,112 @@
+-- What filling has checked where it answers 0 or 10, and what it answers for a block that passes: the law of acceptance. Assumes nothing.
+use Prim.Native.Nat.{ℕ, _*_, _/_, _%_, _≤_, _<_}
+use native.Mathlib.Omega.{arith}
+use mathlib.Core.Path.{_≡_, refl, _∙_}
+use mathlib.Core.Logic.{_⊎_, inl, inr}
+use mathlib.Core.Bool.{Bool, true, false, not}
+use mathlib.Core.List.{List}
+use lib.ListN.{length}
+use lib.Dec.{T, ltb, eqb, T-not}
+use borrow.Author.Tests.{ltb-false, ltb-true, le-ltb, eqb-true, eq-eqb, not-false}
+use Rattle.basics.specs.Choice.{if_then_else_}
+use Rattle.basics.proofs.Test.{eqb-of, lt-or}
+use Rattle.basics.proofs.Search.{lowest-passes, lowest-none, none-lowest}
+use Rattle.lattice.specs.Counts.{sizesFit, points}
+use Rattle.lattice.proofs.Sized.{fits-sized, sized-fits}
+use Rattle.moving.specs.Block.{Block, cutByte, Tabled}
+use Rattle.filling.specs.Check.{rimFault, crosses, cutFault, firstRim, firstCut}
+use Rattle.filling.specs.Fill.{Outcome, refused, written, fill}
+
+-- a block that filling accepts
+pub record Accepted (b : Block) : Type 0 where
+  pub tabled : Tabled b
+  pub rim-fine : (p : ℕ) → p < points (b .sizes) → rimFault b p ≡ false
+  pub cuts-fine : (o : ℕ) → o < 7 * points (b .sizes) → cutFault b o ≡ 0
+
+pub accepted-tabled : (b : Block) → Accepted b → Tabled b
+accepted-tabled b h = h .tabled
+
+-- a cut byte's fault is 0, 6 or 7
+fault-le : (b : Block) (o : ℕ) → cutFault b o ≤ 7
+unfolding cutFault
+fault-le b o = go (crosses b (o / 7) (o % 7)) (eqb (cutByte b o) 0)
+  where
+    go : (c z : Bool) → (if c then (if z then 6 else 0) else (if z then 0 else 7)) ≤ 7
+    go true true = omega arith
+    go true false = omega arith
+    go false true = omega arith
+    go false false = omega arith
+
+faulty : Block → ℕ → Bool
+faulty b o = not (eqb (cutFault b o) 0)
+
+module _ (b : Block) (state rows : List ℕ) where
+  -- an answer that is not this refusal's number comes from what is tested after it
+  passed : (t : Bool) (n at : ℕ) (more : Outcome) (m : ℕ) → (t ≡ true → n ≡ m → ⊥)
+      → (if t then refused b state rows n at else more) .answer .number ≡ m
+      → (t ≡ false) × ((if t then refused b state rows n at else more) ≡ more) × (more .answer .number ≡ m)
+  passed true n at more m h e = absurd (h refl e)
+  passed false n at more m h e = (refl, refl, e)
+
+  -- the block is accepted, the state table is long enough, and what filling gives is what it writes
+  pub record Passed : Type 0 where
+    pub accepted : Accepted b
+    pub state-long : length state ≡ points (b .sizes)
+    pub is : fill b state rows ≡ written b state rows
+
+  pub passed-all : (m : ℕ) → (m ≡ 0) ⊎ (m ≡ 10) → fill b state rows .answer .number ≡ m → Passed
+  unfolding fill faulty
+  passed-all m k e =
+      let s1 = passed (not (sizesFit (b .sizes))) 1 0 _ m (λ t. not-early 1 (omega arith) (omega arith)) e in
+      let s2 = passed (not (eqb (length (b .samples)) (points (b .sizes)))) 2 0 _ m (λ t. not-early 2 (omega arith) (omega arith)) (s1 .2) in
+      let s3 = passed (not (eqb (length (b .cuts)) (7 * points (b .sizes)))) 3 0 _ m (λ t. not-early 3 (omega arith) (omega arith)) (s2 .2) in
+      let s4 = passed (not (eqb (length state) (points (b .sizes)))) 4 0 _ m (λ t. not-early 4 (omega arith) (omega arith)) (s3 .2) in
+      let s5 = passed (ltb (firstRim b) (points (b .sizes))) 5 (firstRim b) _ m (λ t. not-early 5 (omega arith) (omega arith)) (s4 .2) in
+      let s6 = passed (ltb (firstCut b) (7 * points (b .sizes))) (cutFault b (firstCut b)) (firstCut b) _ m not-cut (s5 .2) in
+      record {
+        accepted = record {
+          tabled = record {
+            sized = fits-sized (b .sizes) (not-false _ (s1 .0));
+            samples-long = eqb-true _ _ (not-false _ (s2 .0));
+            cuts-long = eqb-true _ _ (not-false _ (s3 .0));
+          };
+          rim-fine = lowest-none (rimFault b) (points (b .sizes)) (ltb-false _ _ (s5 .0));
+          cuts-fine = λ o h. eqb-true _ _ (not-false _ (lowest-none (faulty b) (7 * points (b .sizes)) (ltb-false _ _ (s6 .0)) o h));
+        };
+        state-long = eqb-true _ _ (not-false _ (s4 .0));
+        is = s1 .1 ∙ s2 .1 ∙ s3 .1 ∙ s4 .1 ∙ s5 .1 ∙ s6 .1;
+      }
+    where
+      not-early : (n : ℕ) → 0 < n → n < 10 → n ≡ m → ⊥
+      not-early n l u f = elim k [ inl z ↦ omega arith | inr z ↦ omega arith ]
+
+      some : (n : ℕ) → T (not (eqb n 0)) → 0 < n
+      some n t = elim (lt-or 0 n) [ inl l ↦ l | inr l ↦ absurd (T-not (eqb n 0) t (eqb-of n 0 (omega arith))) ]
+
+      not-cut : ltb (firstCut b) (7 * points (b .sizes)) ≡ true → cutFault b (firstCut b) ≡ m → ⊥
+      not-cut t f =
+          not-early (cutFault b (firstCut b))
+          (some (cutFault b (firstCut b)) (lowest-passes (faulty b) (7 * points (b .sizes)) (ltb-true _ _ t))) (omega (arith, fault-le b (firstCut b))) f
+
+  -- and the other way round: a block that passes is filled
+  pub accepted-fills : Accepted b → length state ≡ points (b .sizes) → fill b state rows ≡ written b state rows
+  unfolding fill faulty
+  accepted-fills h l =
+      simp (
+        sized-fits (b .sizes) (h .tabled .sized),
+        eq-eqb _ _ (h .tabled .samples-long),
+        eq-eqb _ _ (h .tabled .cuts-long),
+        eq-eqb _ _ l,
+        le-ltb (firstRim b) (points (b .sizes)) (omega (arith, none-lowest (rimFault b) (points (b .sizes)) (h .rim-fine))),
+        le-ltb (firstCut b) (7 * points (b .sizes)) (omega (arith, none-lowest (faulty b) (7 * points (b .sizes)) fine)),
+      )
+    where
+      fine : (o : ℕ) → o < 7 * points (b .sizes) → faulty b o ≡ false
+      fine o u = rw (h .cuts-fine o u) refl
+
+-- an answer 0 or 10 says that the block is accepted
+pub filled-accepted : (b : Block) (state rows : List ℕ) → fill b state rows .answer .number ≡ 0 → Accepted b
+filled-accepted b state rows e = passed-all b state rows 0 (inl refl) e .accepted
+
+pub short-accepted : (b : Block) (state rows : List ℕ) → fill b state rows .answer .number ≡ 10 → Accepted b
+short-accepted b state rows e = passed-all b state rows 10 (inr refl) e .accepted

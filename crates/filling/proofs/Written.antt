@@ -1,0 +1,92 @@
+-- What filling leaves behind for an accepted block: T is the number of rows, M the number of points that moved, the state table holds their
+-- codes, and the row table holds the rows, four ids each. Assumes nothing.
+use Prim.Native.Nat.{ℕ, zero, suc, _+_, _*_, _≤_, _<_}
+use native.Mathlib.Omega.{arith}
+use mathlib.Core.Path.{_≡_, refl, sym, _∙_}
+use mathlib.Core.Logic.{inl}
+use mathlib.Core.Bool.{Bool, true, false, not}
+use mathlib.Core.List.{List, [], _∷_, _++_}
+use lib.ListN.{length, getD, drop}
+use lib.Dec.{leb, eqb}
+use borrow.Author.Tests.{le-leb, lt-leb}
+use Rattle.basics.specs.Choice.{if_then_else_}
+use Rattle.basics.specs.Lists.{gather, count}
+use Rattle.basics.proofs.Mapped.{read-all}
+use Rattle.lattice.specs.Counts.{points}
+use Rattle.moving.specs.Block.{Block}
+use Rattle.moving.specs.Moving.{stateOf}
+use Rattle.moving.proofs.Moved.{codes-length}
+use Rattle.stencil.specs.Row.{Row, row}
+use Rattle.filling.specs.Mesh.{meshOf, table}
+use Rattle.filling.specs.Demand.{nthRow, rowRead, rowsRead}
+use Rattle.filling.specs.Fill.{movedCount, overwritten, written, fill}
+use Rattle.filling.proofs.Accepted.{Accepted, passed-all, accepted-fills}
+
+pub table-length : (rows : List (Row ℕ)) → length (table rows) ≡ 4 * length rows
+unfolding gather
+table-length [] = refl
+table-length (row a b c d ∷ rows) = omega (arith, table-length rows)
+
+pub table-row : (rows : List (Row ℕ)) (more : List ℕ) (i : ℕ) → i < length rows → rowRead (table rows ++ more) i ≡ nthRow rows i
+unfolding gather
+table-row [] more i h = absurd (omega arith)
+table-row (row a b c d ∷ rows) more zero h = refl
+table-row (row a b c d ∷ rows) more (suc i) h = later ∙ table-row rows more i (omega arith)
+  where
+    on : (k : ℕ) → 4 * suc i + k ≡ suc (suc (suc (suc (4 * i + k))))
+    on k = omega arith
+
+    first : 4 * suc i ≡ suc (suc (suc (suc (4 * i))))
+    first = omega arith
+
+    later : rowRead (a ∷ b ∷ c ∷ d ∷ (table rows ++ more)) (suc i) ≡ rowRead (table rows ++ more) i
+    later = rw (on 1, on 2, on 3, first) refl
+
+module _ (b : Block) (state rows : List ℕ) where
+  module _ (h : Accepted b) (l : length state ≡ points (b .sizes)) where
+    -- "T, the rows written"
+    pub rows-counted : fill b state rows .answer .rows ≡ length (meshOf b)
+    unfolding written
+    rows-counted = rw (accepted-fills b state rows h l) refl
+
+    -- "M, the non-zero state bytes"
+    pub moved-counted : fill b state rows .answer .moved ≡ count (λ p. not (eqb (getD (stateOf b) p 0) 0)) (points (b .sizes))
+    unfolding written movedCount
+    moved-counted = rw (accepted-fills b state rows h l, codes-length b (points (b .sizes))) refl
+
+    pub state-written : fill b state rows .state ≡ stateOf b
+    unfolding written
+    state-written = rw (accepted-fills b state rows h l) refl
+
+    -- "10: row table holds fewer than 4T numbers"
+    pub number-0 : 4 * length (meshOf b) ≤ length rows → fill b state rows .answer .number ≡ 0
+    unfolding written
+    number-0 f = rw (accepted-fills b state rows h l, le-leb _ _ f) refl
+
+    pub number-10 : length rows < 4 * length (meshOf b) → fill b state rows .answer .number ≡ 10
+    unfolding written
+    number-10 f = rw (accepted-fills b state rows h l, lt-leb _ _ f) refl
+
+  -- the row table of a filling: the rows, and "entries beyond 4T stay untouched"
+  pub rows-written : fill b state rows .answer .number ≡ 0 → fill b state rows .rows ≡ table (meshOf b) ++ drop (4 * length (meshOf b)) rows
+  unfolding written overwritten
+  rows-written e =
+      let p = passed-all b state rows 0 (inl refl) e in
+      rw (p .is) (go (leb (4 * length (meshOf b)) (length rows)) (rw (p .is) at e))
+    where
+      go : (t : Bool) → _≡_ {A = ℕ} (if t then 0 else 10) 0
+          → (if t then table (meshOf b) ++ drop (length (table (meshOf b))) rows else rows) ≡ table (meshOf b) ++ drop (4 * length (meshOf b)) rows
+      go true e = rw (table-length (meshOf b)) refl
+      go false e = absurd (omega (arith, e))
+
+  pub row-written : fill b state rows .answer .number ≡ 0
+      → (i : ℕ) → i < length (meshOf b) → rowRead (fill b state rows .rows) i ≡ nthRow (meshOf b) i
+  row-written e i h = rw (rows-written e) (table-row (meshOf b) (drop (4 * length (meshOf b)) rows) i h)
+
+  -- so the rows, read from the tables that filling leaves, are those of the definition
+  pub rows-read : fill b state rows .answer .number ≡ 0 → rowsRead (fill b state rows .rows) (fill b state rows .answer .rows) ≡ meshOf b
+  unfolding rowsRead
+  rows-read e =
+      let p = passed-all b state rows 0 (inl refl) e in
+      read-all (rowRead (fill b state rows .rows)) (meshOf b) (fill b state rows .answer .rows) (row 0 0 0 0)
+      (sym (rows-counted (p .accepted) (p .state-long))) (row-written e)

@@ -1,0 +1,1 @@
+// Demand 3 for every block that filling accepts; no code.
