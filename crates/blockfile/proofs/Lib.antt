@@ -1,0 +1,14 @@
+pub mod Signed
+pub mod Stores
+pub mod Left
+pub mod Fitting
+pub mod Laid
+pub mod Parts
+pub mod Outcome
+pub mod Stands
+pub mod Rows
+pub mod RoundTrip
+pub mod OnlyBytes
+pub mod Opened
+pub mod Given
+pub mod Examples
