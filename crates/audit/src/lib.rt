@@ -1,5 +1,6 @@
 // What keeps a block from being filled: a rim point that is above zero, a cut byte that is missing
 // or too many.
+pub mod crossing;
 pub mod cuts;
 pub mod rim;
 pub mod seven;

@@ -12,8 +12,8 @@ use Rattle.audit.proofs.Points.{stands}
 use Rattle.audit.proofs.Reach.{start, crossing-is, ready, numbers-fit}
 use Rattle.audit.proofs.CornerEnds.{end-0, end-1, end-2, end-3, end-4, end-5, end-6, far-down}
 use borrow.Author.Needs.{needs}
-use Rattle.audit.proofs.cuts.corner_crossings.Statement.{statement}
-use Rattle.audit.proofs.cuts.corner_crossings.Tie as tie
+use Rattle.audit.proofs.crossing.corner_crossings.Statement.{statement}
+use Rattle.audit.proofs.crossing.corner_crossings.Tie as tie
 
 add-line : tie.Need-add-line
 add-line c = search needs
