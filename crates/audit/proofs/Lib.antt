@@ -8,3 +8,4 @@ pub mod Table
 pub mod Reach
 pub mod CornerEnds
 pub mod CentreEnds
+pub mod Still

@@ -1,6 +1,7 @@
 // Cut bytes that are missing or too many.
 use crate::Fault;
 use crate::crossing;
+use crate::quiet;
 use crate::seven;
 use crate::walk;
 use lattice::Site;
@@ -8,14 +9,30 @@ use lattice::Sizes;
 use lattice::counts;
 use lattice::numbers;
 ghost use mathlib.Core.Path.{_≡_};
-ghost use Prim.Native.Nat.{_*_};
+ghost use mathlib.Core.List.{[]};
+ghost use Prim.Native.Nat.{_*_, _≤_};
+ghost use lib.ListN.{length};
 ghost use Rattle.lattice.specs.Axis.{along-x};
 ghost use Rattle.lattice.specs.Counts.{grid};
 ghost use Rattle.moving.specs.Block.{blockOf, Tabled};
-ghost use Rattle.audit.specs.Faults.{CutAnswer, tableFault};
+ghost use Rattle.audit.specs.Faults.{Asked, CutAnswer, crossingsAt, offsetOf, sevenFault, tableFault};
 ghost use Rattle.audit.specs.Lines.{Line};
 
-// The first byte at fault of a line of points. The seven bytes of a point are lent to its test.
+// The first byte at fault of a point's seven, which are lent to it. Most points need only a glance.
+fn site_fault(s: Sizes, samples: &[i16], bytes: &[u8], q: Site) -> Fault
+    requires { ⌜ Asked s (now samples) q ⌝ }
+    requires { ⌜ length (now bytes) ≡ 7 ⌝ }
+    ensures { λ r. ⌜ r ≡ sevenFault (crossingsAt (blockOf s (now (samples .entry)) []) (q .own)) (now (bytes .entry)) ⌝ }
+    ensures { λ r. ⌜ offsetOf r ≤ 6 ⌝ }
+{
+    if quiet::is_quiet(s, samples, bytes, q) {
+        return Fault::Fine;
+    }
+    let must = crossing::crossings(s, samples, q);
+    seven::point_fault(bytes, must)
+}
+
+// The first byte at fault of a line of points.
 fn line_fault(s: Sizes, samples: &[i16], cuts: &[u8], q: Site) -> Fault
     requires { ⌜ Tabled (blockOf s (now samples) (now cuts)) ⌝ }
     requires { ⌜ Line s (q .own) q ⌝ }
@@ -27,8 +44,7 @@ fn line_fault(s: Sizes, samples: &[i16], cuts: &[u8], q: Site) -> Fault
     for x in 0..m {
         let a = 7 * (own + x);
         let e = a + 7;
-        let must = crossing::crossings(s, samples, walk::along(q, x));
-        let found = seven::point_fault(&cuts[a..e], must);
+        let found = site_fault(s, samples, &cuts[a..e], walk::along(q, x));
         match found {
             Fault::Fine => {}
             Fault::Gap(d) => return Fault::Gap(a + d),

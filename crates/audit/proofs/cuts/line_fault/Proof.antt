@@ -41,29 +41,25 @@ add-e : tie.Need-add-e Inv-loop μ-loop
 add-e c =
     let f = line-fits (c .before .before .before .before .pre .1) (c .before .before .before .before .pre .0 .sized) in let n = points-small (c .before .before .before .before .args .s) (c .before .before .before .before .pre .0 .sized) in let e = c .before .before .line-length .ensures .0 in omega arith
 
+sub-site-fault : tie.Need-sub-site-fault Inv-loop μ-loop
+sub-site-fault c = omega arith
+
+part-site-fault-start : tie.Need-part-site-fault-start Inv-loop μ-loop
+part-site-fault-start c = omega arith
+
+part-site-fault-end : tie.Need-part-site-fault-end Inv-loop μ-loop
+part-site-fault-end c =
+    let f = line-fits (c .before .before .before .before .pre .1) (c .before .before .before .before .pre .0 .sized) in let n = points-small (c .before .before .before .before .args .s) (c .before .before .before .before .pre .0 .sized) in let e = c .before .before .line-length .ensures .0 in omega (arith, c .before .before .before .before .pre .0 .cuts-long)
+
 along-requires : tie.Need-along-requires Inv-loop μ-loop
 along-requires c κs =
-    let n = numbers-small (c .before .before .before .before .args .s) (c .before .before .before .before .args .q) (c .before .before .before .before .pre .0 .sized) (sited (line-stands (c .before .before .before .before .pre .1))) in
-    let e = c .before .before .line-length .ensures .1 in
+    let n = numbers-small (c .before .before .before .before .before .args .s) (c .before .before .before .before .before .args .q) (c .before .before .before .before .before .pre .0 .sized) (sited (line-stands (c .before .before .before .before .before .pre .1))) in
+    let e = c .before .before .before .line-length .ensures .1 in
     (n .0, n .1, omega arith)
 
-crossings-requires : tie.Need-crossings-requires Inv-loop μ-loop
-crossings-requires c κs =
-    asked-line (c .before .before .before .before .before .pre .1) (c .before .before .before .before .before .pre .0 .sized) (c .before .before .before .before .before .pre .0 .samples-long) (let e = c .before .before .before .line-length .ensures .0 in omega arith) (c .along .ensures)
-
-sub-point-fault : tie.Need-sub-point-fault Inv-loop μ-loop
-sub-point-fault c = omega arith
-
-part-point-fault-start : tie.Need-part-point-fault-start Inv-loop μ-loop
-part-point-fault-start c = omega arith
-
-part-point-fault-end : tie.Need-part-point-fault-end Inv-loop μ-loop
-part-point-fault-end c =
-    let f = line-fits (c .before .before .before .before .before .before .pre .1) (c .before .before .before .before .before .before .pre .0 .sized) in let n = points-small (c .before .before .before .before .before .before .args .s) (c .before .before .before .before .before .before .pre .0 .sized) in let e = c .before .before .before .before .line-length .ensures .0 in omega (arith, c .before .before .before .before .before .before .pre .0 .cuts-long)
-
-point-fault-requires : tie.Need-point-fault-requires Inv-loop μ-loop
-point-fault-requires c κs =
-    simp (length-take, length-drop) (let f = line-fits (c .before .before .before .before .before .before .before .pre .1) (c .before .before .before .before .before .before .before .pre .0 .sized) in let e = c .before .before .before .before .before .line-length .ensures .0 in omega (arith, c .before .before .before .before .before .before .before .pre .0 .cuts-long))
+site-fault-requires : tie.Need-site-fault-requires Inv-loop μ-loop
+site-fault-requires c κs =
+    (asked-line (c .before .before .before .before .before .before .pre .1) (c .before .before .before .before .before .before .pre .0 .sized) (c .before .before .before .before .before .before .pre .0 .samples-long) (let e = c .before .before .before .before .line-length .ensures .0 in omega arith) (c .along .ensures), simp (length-take, length-drop) (let f = line-fits (c .before .before .before .before .before .before .pre .1) (c .before .before .before .before .before .before .pre .0 .sized) in let e = c .before .before .before .before .line-length .ensures .0 in omega (arith, c .before .before .before .before .before .before .pre .0 .cuts-long)))
 
 enum-told : tie.Need-enum-told Inv-loop μ-loop
 enum-told c = search needs
@@ -71,36 +67,36 @@ enum-told c = search needs
 enum-known-found : tie.Need-enum-known-found Inv-loop μ-loop
 enum-known-found c = search needs
 
-add-t21 : tie.Need-add-t21 Inv-loop μ-loop
-add-t21 c =
-    let h = rw (c .before .found .given .1) at (c .before .before .before .point-fault .ensures .1) in
-    let f = line-fits (c .before .before .before .before .before .before .before .before .before .before .before .pre .1) (c .before .before .before .before .before .before .before .before .before .before .before .pre .0 .sized) in let n = points-small (c .before .before .before .before .before .before .before .before .before .before .before .args .s) (c .before .before .before .before .before .before .before .before .before .before .before .pre .0 .sized) in let e = c .before .before .before .before .before .before .before .before .before .line-length .ensures .0 in omega arith
+add-t20 : tie.Need-add-t20 Inv-loop μ-loop
+add-t20 c =
+    let h = rw (c .before .found .given .1) at (c .before .before .before .site-fault .ensures .1) in
+    let f = line-fits (c .before .before .before .before .before .before .before .before .before .before .pre .1) (c .before .before .before .before .before .before .before .before .before .before .pre .0 .sized) in let n = points-small (c .before .before .before .before .before .before .before .before .before .before .args .s) (c .before .before .before .before .before .before .before .before .before .before .pre .0 .sized) in let e = c .before .before .before .before .before .before .before .before .line-length .ensures .0 in omega arith
 
 returns : tie.Need-returns Inv-loop μ-loop
 returns c =
-    point-over _ _ _ _ _ _ _ _ (c .before .before .before .before .before .before .before .loop-test .taken)
-    (part-is (7 * (c .before .before .before .before .before .before .before .before .before .before .before .args .q .own + c .before .before .before .before .before .before .before .before .loop .x)) (c .before .before .before .before .before .before .before .before .before .before .before .args .cuts .now))
-    (c .before .before .before .before .before .crossings .ensures ∙ ap (λ (t : Site). crossingsAt (blockOf (c .before .before .before .before .before .before .before .before .before .before .before .args .s) (c .before .before .before .before .before .before .before .before .before .before .before .args .samples .now) []) (t .own)) (c .before .before .before .before .before .before .along .ensures))
-    (c .before .before .before .point-fault .ensures .0) (c .before .found .given .1) ∙ c .before .before .before .before .before .before .before .before .loop .inv .1 ∙ ap (λ (k : ℕ). tableFault (blockOf (c .before .before .before .before .before .before .before .before .before .before .before .args .s) (c .before .before .before .before .before .before .before .before .before .before .before .args .samples .now) (c .before .before .before .before .before .before .before .before .before .before .before .args .cuts .now)) (7 * k) (7 * c .before .before .before .before .before .before .before .before .before .before .before .args .q .own)) (c .before .before .before .before .before .before .before .before .before .line-length .ensures .0)
+    point-over _ _ _ _ _ _ _ _ (c .before .before .before .before .before .before .loop-test .taken)
+    (part-is (7 * (c .before .before .before .before .before .before .before .before .before .before .args .q .own + c .before .before .before .before .before .before .before .loop .x)) (c .before .before .before .before .before .before .before .before .before .before .args .cuts .now))
+    (ap (λ (t : Site). crossingsAt (blockOf (c .before .before .before .before .before .before .before .before .before .before .args .s) (c .before .before .before .before .before .before .before .before .before .before .args .samples .now) []) (t .own)) (c .before .before .before .before .along .ensures))
+    (c .before .before .before .site-fault .ensures .0) (c .before .found .given .1) ∙ c .before .before .before .before .before .before .before .loop .inv .1 ∙ ap (λ (k : ℕ). tableFault (blockOf (c .before .before .before .before .before .before .before .before .before .before .args .s) (c .before .before .before .before .before .before .before .before .before .before .args .samples .now) (c .before .before .before .before .before .before .before .before .before .before .args .cuts .now)) (7 * k) (7 * c .before .before .before .before .before .before .before .before .before .before .args .q .own)) (c .before .before .before .before .before .before .before .before .line-length .ensures .0)
 
 enum-known-found-2 : tie.Need-enum-known-found-2 Inv-loop μ-loop
 enum-known-found-2 c = search needs
 
-add-t22 : tie.Need-add-t22 Inv-loop μ-loop
-add-t22 c =
-    let h = rw (c .before .found2 .given .1) at (c .before .before .before .point-fault .ensures .1) in
-    let f = line-fits (c .before .before .before .before .before .before .before .before .before .before .before .pre .1) (c .before .before .before .before .before .before .before .before .before .before .before .pre .0 .sized) in let n = points-small (c .before .before .before .before .before .before .before .before .before .before .before .args .s) (c .before .before .before .before .before .before .before .before .before .before .before .pre .0 .sized) in let e = c .before .before .before .before .before .before .before .before .before .line-length .ensures .0 in omega arith
+add-t21 : tie.Need-add-t21 Inv-loop μ-loop
+add-t21 c =
+    let h = rw (c .before .found2 .given .1) at (c .before .before .before .site-fault .ensures .1) in
+    let f = line-fits (c .before .before .before .before .before .before .before .before .before .before .pre .1) (c .before .before .before .before .before .before .before .before .before .before .pre .0 .sized) in let n = points-small (c .before .before .before .before .before .before .before .before .before .before .args .s) (c .before .before .before .before .before .before .before .before .before .before .pre .0 .sized) in let e = c .before .before .before .before .before .before .before .before .line-length .ensures .0 in omega arith
 
 returns-2 : tie.Need-returns-2 Inv-loop μ-loop
 returns-2 c =
-    point-over _ _ _ _ _ _ _ _ (c .before .before .before .before .before .before .before .loop-test .taken)
-    (part-is (7 * (c .before .before .before .before .before .before .before .before .before .before .before .args .q .own + c .before .before .before .before .before .before .before .before .loop .x)) (c .before .before .before .before .before .before .before .before .before .before .before .args .cuts .now))
-    (c .before .before .before .before .before .crossings .ensures ∙ ap (λ (t : Site). crossingsAt (blockOf (c .before .before .before .before .before .before .before .before .before .before .before .args .s) (c .before .before .before .before .before .before .before .before .before .before .before .args .samples .now) []) (t .own)) (c .before .before .before .before .before .before .along .ensures))
-    (c .before .before .before .point-fault .ensures .0) (c .before .found2 .given .1) ∙ c .before .before .before .before .before .before .before .before .loop .inv .1 ∙ ap (λ (k : ℕ). tableFault (blockOf (c .before .before .before .before .before .before .before .before .before .before .before .args .s) (c .before .before .before .before .before .before .before .before .before .before .before .args .samples .now) (c .before .before .before .before .before .before .before .before .before .before .before .args .cuts .now)) (7 * k) (7 * c .before .before .before .before .before .before .before .before .before .before .before .args .q .own)) (c .before .before .before .before .before .before .before .before .before .line-length .ensures .0)
+    point-over _ _ _ _ _ _ _ _ (c .before .before .before .before .before .before .loop-test .taken)
+    (part-is (7 * (c .before .before .before .before .before .before .before .before .before .before .args .q .own + c .before .before .before .before .before .before .before .loop .x)) (c .before .before .before .before .before .before .before .before .before .before .args .cuts .now))
+    (ap (λ (t : Site). crossingsAt (blockOf (c .before .before .before .before .before .before .before .before .before .before .args .s) (c .before .before .before .before .before .before .before .before .before .before .args .samples .now) []) (t .own)) (c .before .before .before .before .along .ensures))
+    (c .before .before .before .site-fault .ensures .0) (c .before .found2 .given .1) ∙ c .before .before .before .before .before .before .before .loop .inv .1 ∙ ap (λ (k : ℕ). tableFault (blockOf (c .before .before .before .before .before .before .before .before .before .before .args .s) (c .before .before .before .before .before .before .before .before .before .before .args .samples .now) (c .before .before .before .before .before .before .before .before .before .before .args .cuts .now)) (7 * k) (7 * c .before .before .before .before .before .before .before .before .before .before .args .q .own)) (c .before .before .before .before .before .before .before .before .line-length .ensures .0)
 
 add-x : tie.Need-add-x Inv-loop μ-loop
 add-x c =
-    let e = c .before .before .before .before .before .before .before .before .line-length .ensures .1 in omega arith
+    let e = c .before .before .before .before .before .before .before .line-length .ensures .1 in omega arith
 
 loop-less : tie.Need-loop-less Inv-loop μ-loop
 loop-less c = omega arith
@@ -108,10 +104,10 @@ loop-less c = omega arith
 loop-again : tie.Need-loop-again Inv-loop μ-loop
 loop-again c = (
   omega arith,
-  point-over _ _ _ _ _ _ _ _ (c .before .before .before .before .before .before .loop-test .taken)
-      (part-is (7 * (c .before .before .before .before .before .before .before .before .before .before .args .q .own + c .before .before .before .before .before .before .before .loop .x)) (c .before .before .before .before .before .before .before .before .before .before .args .cuts .now))
-      (c .before .before .before .before .crossings .ensures ∙ ap (λ (t : Site). crossingsAt (blockOf (c .before .before .before .before .before .before .before .before .before .before .args .s) (c .before .before .before .before .before .before .before .before .before .before .args .samples .now) []) (t .own)) (c .before .before .before .before .before .along .ensures))
-      (c .before .before .point-fault .ensures .0) (c .enum-told .given .1) ∙ c .before .before .before .before .before .before .before .loop .inv .1,
+  point-over _ _ _ _ _ _ _ _ (c .before .before .before .before .before .loop-test .taken)
+      (part-is (7 * (c .before .before .before .before .before .before .before .before .before .args .q .own + c .before .before .before .before .before .before .loop .x)) (c .before .before .before .before .before .before .before .before .before .args .cuts .now))
+      (ap (λ (t : Site). crossingsAt (blockOf (c .before .before .before .before .before .before .before .before .before .args .s) (c .before .before .before .before .before .before .before .before .before .args .samples .now) []) (t .own)) (c .before .before .before .along .ensures))
+      (c .before .before .site-fault .ensures .0) (c .enum-told .given .1) ∙ c .before .before .before .before .before .before .loop .inv .1,
 )
 
 returns-3 : tie.Need-returns-3 Inv-loop μ-loop
@@ -129,18 +125,17 @@ line-fault-spec =
     add-a
     mul-a
     add-e
+    sub-site-fault
+    part-site-fault-start
+    part-site-fault-end
     along-requires
-    crossings-requires
-    sub-point-fault
-    part-point-fault-start
-    part-point-fault-end
-    point-fault-requires
+    site-fault-requires
     enum-told
     enum-known-found
-    add-t21
+    add-t20
     returns
     enum-known-found-2
-    add-t22
+    add-t21
     returns-2
     add-x
     loop-less
