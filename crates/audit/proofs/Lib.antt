@@ -9,3 +9,4 @@ pub mod Reach
 pub mod CornerEnds
 pub mod CentreEnds
 pub mod Still
+pub mod Answers

@@ -33,7 +33,8 @@ loop-holds c =
 
 line-fault-requires : tie.Need-line-fault-requires Inv-loop μ-loop
 line-fault-requires c κs =
-    (c .before .before .before .before .before .pre, line-self (c .before .loop .inv .1 (c .loop-test .taken)))
+    let c5 = c .before .before .before .before .before in
+    (c5 .pre, line-self (c .before .loop .inv .1 (c .loop-test .taken)))
 
 enum-told : tie.Need-enum-told Inv-loop μ-loop
 enum-told c = search needs
@@ -43,49 +44,74 @@ enum-known-found c = search needs
 
 returns : tie.Need-returns Inv-loop μ-loop
 returns c =
-    answer-is (blockOf (c .before .before .before .before .before .before .before .before .before .args .s) (c .before .before .before .before .before .before .before .before .before .args .samples .now) (c .before .before .before .before .before .before .before .before .before .args .cuts .now)) _ (c .before .before .before .before .before .before .before .point-count .ensures) (line-step (c .before .before .before .before .before .before .before .before .before .args .samples .now) (c .before .before .before .before .before .before .before .before .before .args .cuts .now) _ _ (c .before .before .before .before .before .loop .inv .1 (c .before .before .before .before .loop-test .taken)) (c .before .before .before .before .before .before .before .before .before .pre .sized) (c .before .before .before .before .before .before .before .point-count .ensures) refl (c .before .before .before .line-fault .ensures) (c .before .found .given .1) ∙ c .before .before .before .before .before .loop .inv .2)
+    let c4 = c .before .before .before .before in
+    let c5 = c4 .before in
+    let c7 = c5 .before .before in
+    let c9 = c7 .before .before in
+    answer-is (blockOf (c9 .args .s) (c9 .args .samples .now) (c9 .args .cuts .now)) _ (c7 .point-count .ensures) (line-step (c9 .args .samples .now) (c9 .args .cuts .now) _ _ (c5 .loop .inv .1 (c4 .loop-test .taken)) (c9 .pre .sized) (c7 .point-count .ensures) refl (c .before .before .before .line-fault .ensures) (c .before .found .given .1) ∙ c5 .loop .inv .2)
 
 enum-known-found-2 : tie.Need-enum-known-found-2 Inv-loop μ-loop
 enum-known-found-2 c = search needs
 
 returns-2 : tie.Need-returns-2 Inv-loop μ-loop
 returns-2 c =
-    answer-is (blockOf (c .before .before .before .before .before .before .before .before .before .args .s) (c .before .before .before .before .before .before .before .before .before .args .samples .now) (c .before .before .before .before .before .before .before .before .before .args .cuts .now)) _ (c .before .before .before .before .before .before .before .point-count .ensures) (line-step (c .before .before .before .before .before .before .before .before .before .args .samples .now) (c .before .before .before .before .before .before .before .before .before .args .cuts .now) _ _ (c .before .before .before .before .before .loop .inv .1 (c .before .before .before .before .loop-test .taken)) (c .before .before .before .before .before .before .before .before .before .pre .sized) (c .before .before .before .before .before .before .before .point-count .ensures) refl (c .before .before .before .line-fault .ensures) (c .before .found2 .given .1) ∙ c .before .before .before .before .before .loop .inv .2)
+    let c4 = c .before .before .before .before in
+    let c5 = c4 .before in
+    let c7 = c5 .before .before in
+    let c9 = c7 .before .before in
+    answer-is (blockOf (c9 .args .s) (c9 .args .samples .now) (c9 .args .cuts .now)) _ (c7 .point-count .ensures) (line-step (c9 .args .samples .now) (c9 .args .cuts .now) _ _ (c5 .loop .inv .1 (c4 .loop-test .taken)) (c9 .pre .sized) (c7 .point-count .ensures) refl (c .before .before .before .line-fault .ensures) (c .before .found2 .given .1) ∙ c5 .loop .inv .2)
 
 line-length-requires : tie.Need-line-length-requires Inv-loop μ-loop
 line-length-requires c κs = c .before .before .before .before .before .before .before .before .pre .sized
 
 add-p : tie.Need-add-p Inv-loop μ-loop
 add-p c =
-    let n = points-small (c .before .before .before .before .before .before .before .before .before .args .s) (c .before .before .before .before .before .before .before .before .before .pre .sized) in let e = c .line-length .ensures .1 in omega (arith, c .before .before .before .before .before .before .before .point-count .ensures)
+    let c7 = c .before .before .before .before .before .before .before in
+    let c9 = c7 .before .before in
+    let n = points-small (c9 .args .s) (c9 .pre .sized) in let e = c .line-length .ensures .1 in omega (arith, c7 .point-count .ensures)
 
 next-line-requires : tie.Need-next-line-requires Inv-loop μ-loop
 next-line-requires c κs =
-    let l = (c .before .before .before .before .before .before .loop .inv .1 (c .before .before .before .before .before .loop-test .taken)) in
+    let c5 = c .before .before .before .before .before in
+    let c6 = c5 .before in
+    let c8 = c6 .before .before in
+    let c10 = c8 .before .before in
+    let l = (c6 .loop .inv .1 (c5 .loop-test .taken)) in
     let e = c .before .line-length .ensures .0 in
-    (c .before .before .before .before .before .before .before .before .before .before .pre .sized, (line-self l, omega (arith, line-own l, c .before .before .before .before .before .before .before .before .point-count .ensures)))
+    (c10 .pre .sized, (line-self l, omega (arith, line-own l, c8 .point-count .ensures)))
 
 loop-less : tie.Need-loop-less Inv-loop μ-loop
 loop-less c = let e = c .before .before .line-length .ensures .1 in omega arith
 
 loop-again : tie.Need-loop-again Inv-loop μ-loop
 loop-again c =
-    let l = (c .before .before .before .before .before .before .before .loop .inv .1 (c .before .before .before .before .before .before .loop-test .taken)) in
-    (omega arith, (λ h. line-on l (c .before .before .line-length .ensures .0) (c .next-line .ensures)), line-step (c .before .before .before .before .before .before .before .before .before .before .before .args .samples .now) (c .before .before .before .before .before .before .before .before .before .before .before .args .cuts .now) _ _ (c .before .before .before .before .before .before .before .loop .inv .1 (c .before .before .before .before .before .before .loop-test .taken)) (c .before .before .before .before .before .before .before .before .before .before .before .pre .sized) (c .before .before .before .before .before .before .before .before .before .point-count .ensures) (c .before .before .line-length .ensures .0) (c .before .before .before .before .before .line-fault .ensures) (c .before .before .before .enum-told .given .1) ∙ c .before .before .before .before .before .before .before .loop .inv .2)
+    let c5 = c .before .before .before .before .before in
+    let c6 = c5 .before in
+    let c7 = c6 .before in
+    let c9 = c7 .before .before in
+    let c11 = c9 .before .before in
+    let l = (c7 .loop .inv .1 (c6 .loop-test .taken)) in
+    (omega arith, (λ h. line-on l (c .before .before .line-length .ensures .0) (c .next-line .ensures)), line-step (c11 .args .samples .now) (c11 .args .cuts .now) _ _ (c7 .loop .inv .1 (c6 .loop-test .taken)) (c11 .pre .sized) (c9 .point-count .ensures) (c .before .before .line-length .ensures .0) (c5 .line-fault .ensures) (c .before .before .before .enum-told .given .1) ∙ c7 .loop .inv .2)
 
 loop-less-2 : tie.Need-loop-less-2 Inv-loop μ-loop
 loop-less-2 c = let e = c .before .line-length .ensures .1 in omega arith
 
 loop-again-2 : tie.Need-loop-again-2 Inv-loop μ-loop
 loop-again-2 c =
-    let l = (c .before .before .before .before .before .before .loop .inv .1 (c .before .before .before .before .before .loop-test .taken)) in
-    let f = line-fits l (c .before .before .before .before .before .before .before .before .before .before .pre .sized) in
+    let c4 = c .before .before .before .before in
+    let c5 = c4 .before in
+    let c6 = c5 .before in
+    let c8 = c6 .before .before in
+    let c10 = c8 .before .before in
+    let l = (c6 .loop .inv .1 (c5 .loop-test .taken)) in
+    let f = line-fits l (c10 .pre .sized) in
     let e = c .before .line-length .ensures .0 in
-    (omega (arith, c .before .before .before .before .before .before .before .before .point-count .ensures), (λ h. absurd (omega arith)), line-step (c .before .before .before .before .before .before .before .before .before .before .args .samples .now) (c .before .before .before .before .before .before .before .before .before .before .args .cuts .now) _ _ (c .before .before .before .before .before .before .loop .inv .1 (c .before .before .before .before .before .loop-test .taken)) (c .before .before .before .before .before .before .before .before .before .before .pre .sized) (c .before .before .before .before .before .before .before .before .point-count .ensures) (c .before .line-length .ensures .0) (c .before .before .before .before .line-fault .ensures) (c .before .before .enum-told .given .1) ∙ c .before .before .before .before .before .before .loop .inv .2)
+    (omega (arith, c8 .point-count .ensures), (λ h. absurd (omega arith)), line-step (c10 .args .samples .now) (c10 .args .cuts .now) _ _ (c6 .loop .inv .1 (c5 .loop-test .taken)) (c10 .pre .sized) (c8 .point-count .ensures) (c .before .line-length .ensures .0) (c4 .line-fault .ensures) (c .before .before .enum-told .given .1) ∙ c6 .loop .inv .2)
 
 returns-3 : tie.Need-returns-3 Inv-loop μ-loop
 returns-3 c =
-    answer-is (blockOf (c .before .before .before .before .before .args .s) (c .before .before .before .before .before .args .samples .now) (c .before .before .before .before .before .args .cuts .now)) _ (c .before .before .before .point-count .ensures) (sym (none-left (blockOf (c .before .before .before .before .before .args .s) (c .before .before .before .before .before .args .samples .now) (c .before .before .before .before .before .args .cuts .now)) _ _ _ (c .loop-test .left)) ∙ c .before .loop .inv .2)
+    let c5 = c .before .before .before .before .before in
+    answer-is (blockOf (c5 .args .s) (c5 .args .samples .now) (c5 .args .cuts .now)) _ (c .before .before .before .point-count .ensures) (sym (none-left (blockOf (c5 .args .s) (c5 .args .samples .now) (c5 .args .cuts .now)) _ _ _ (c .loop-test .left)) ∙ c .before .loop .inv .2)
 
 pub first-cut-spec : {M : Type 1} → statement M
 first-cut-spec =

@@ -31,15 +31,18 @@ loop-holds c = (omega arith, line-left _ _ _)
 
 add-a : tie.Need-add-a Inv-loop μ-loop
 add-a c =
-    let f = line-fits (c .before .before .before .before .pre .1) (c .before .before .before .before .pre .0 .sized) in let n = points-small (c .before .before .before .before .args .s) (c .before .before .before .before .pre .0 .sized) in let e = c .before .before .line-length .ensures .0 in omega arith
+    let c4 = c .before .before .before .before in
+    let f = line-fits (c4 .pre .1) (c4 .pre .0 .sized) in let n = points-small (c4 .args .s) (c4 .pre .0 .sized) in let e = c .before .before .line-length .ensures .0 in omega arith
 
 mul-a : tie.Need-mul-a Inv-loop μ-loop
 mul-a c =
-    let f = line-fits (c .before .before .before .before .pre .1) (c .before .before .before .before .pre .0 .sized) in let n = points-small (c .before .before .before .before .args .s) (c .before .before .before .before .pre .0 .sized) in let e = c .before .before .line-length .ensures .0 in omega arith
+    let c4 = c .before .before .before .before in
+    let f = line-fits (c4 .pre .1) (c4 .pre .0 .sized) in let n = points-small (c4 .args .s) (c4 .pre .0 .sized) in let e = c .before .before .line-length .ensures .0 in omega arith
 
 add-e : tie.Need-add-e Inv-loop μ-loop
 add-e c =
-    let f = line-fits (c .before .before .before .before .pre .1) (c .before .before .before .before .pre .0 .sized) in let n = points-small (c .before .before .before .before .args .s) (c .before .before .before .before .pre .0 .sized) in let e = c .before .before .line-length .ensures .0 in omega arith
+    let c4 = c .before .before .before .before in
+    let f = line-fits (c4 .pre .1) (c4 .pre .0 .sized) in let n = points-small (c4 .args .s) (c4 .pre .0 .sized) in let e = c .before .before .line-length .ensures .0 in omega arith
 
 sub-site-fault : tie.Need-sub-site-fault Inv-loop μ-loop
 sub-site-fault c = omega arith
@@ -49,17 +52,21 @@ part-site-fault-start c = omega arith
 
 part-site-fault-end : tie.Need-part-site-fault-end Inv-loop μ-loop
 part-site-fault-end c =
-    let f = line-fits (c .before .before .before .before .pre .1) (c .before .before .before .before .pre .0 .sized) in let n = points-small (c .before .before .before .before .args .s) (c .before .before .before .before .pre .0 .sized) in let e = c .before .before .line-length .ensures .0 in omega (arith, c .before .before .before .before .pre .0 .cuts-long)
+    let c4 = c .before .before .before .before in
+    let f = line-fits (c4 .pre .1) (c4 .pre .0 .sized) in let n = points-small (c4 .args .s) (c4 .pre .0 .sized) in let e = c .before .before .line-length .ensures .0 in omega (arith, c4 .pre .0 .cuts-long)
 
 along-requires : tie.Need-along-requires Inv-loop μ-loop
 along-requires c κs =
-    let n = numbers-small (c .before .before .before .before .before .args .s) (c .before .before .before .before .before .args .q) (c .before .before .before .before .before .pre .0 .sized) (sited (line-stands (c .before .before .before .before .before .pre .1))) in
+    let c5 = c .before .before .before .before .before in
+    let n = numbers-small (c5 .args .s) (c5 .args .q) (c5 .pre .0 .sized) (sited (line-stands (c5 .pre .1))) in
     let e = c .before .before .before .line-length .ensures .1 in
     (n .0, n .1, omega arith)
 
 site-fault-requires : tie.Need-site-fault-requires Inv-loop μ-loop
 site-fault-requires c κs =
-    (asked-line (c .before .before .before .before .before .before .pre .1) (c .before .before .before .before .before .before .pre .0 .sized) (c .before .before .before .before .before .before .pre .0 .samples-long) (let e = c .before .before .before .before .line-length .ensures .0 in omega arith) (c .along .ensures), simp (length-take, length-drop) (let f = line-fits (c .before .before .before .before .before .before .pre .1) (c .before .before .before .before .before .before .pre .0 .sized) in let e = c .before .before .before .before .line-length .ensures .0 in omega (arith, c .before .before .before .before .before .before .pre .0 .cuts-long)))
+    let c4 = c .before .before .before .before in
+    let c6 = c4 .before .before in
+    (asked-line (c6 .pre .1) (c6 .pre .0 .sized) (c6 .pre .0 .samples-long) (let e = c4 .line-length .ensures .0 in omega arith) (c .along .ensures), simp (length-take, length-drop) (let f = line-fits (c6 .pre .1) (c6 .pre .0 .sized) in let e = c4 .line-length .ensures .0 in omega (arith, c6 .pre .0 .cuts-long)))
 
 enum-told : tie.Need-enum-told Inv-loop μ-loop
 enum-told c = search needs
@@ -69,50 +76,69 @@ enum-known-found c = search needs
 
 add-t20 : tie.Need-add-t20 Inv-loop μ-loop
 add-t20 c =
+    let c8 = c .before .before .before .before .before .before .before .before in
+    let c10 = c8 .before .before in
     let h = rw (c .before .found .given .1) at (c .before .before .before .site-fault .ensures .1) in
-    let f = line-fits (c .before .before .before .before .before .before .before .before .before .before .pre .1) (c .before .before .before .before .before .before .before .before .before .before .pre .0 .sized) in let n = points-small (c .before .before .before .before .before .before .before .before .before .before .args .s) (c .before .before .before .before .before .before .before .before .before .before .pre .0 .sized) in let e = c .before .before .before .before .before .before .before .before .line-length .ensures .0 in omega arith
+    let f = line-fits (c10 .pre .1) (c10 .pre .0 .sized) in let n = points-small (c10 .args .s) (c10 .pre .0 .sized) in let e = c8 .line-length .ensures .0 in omega arith
 
 returns : tie.Need-returns Inv-loop μ-loop
 returns c =
-    point-over _ _ _ _ _ _ _ _ (c .before .before .before .before .before .before .loop-test .taken)
-    (part-is (7 * (c .before .before .before .before .before .before .before .before .before .before .args .q .own + c .before .before .before .before .before .before .before .loop .x)) (c .before .before .before .before .before .before .before .before .before .before .args .cuts .now))
-    (ap (λ (t : Site). crossingsAt (blockOf (c .before .before .before .before .before .before .before .before .before .before .args .s) (c .before .before .before .before .before .before .before .before .before .before .args .samples .now) []) (t .own)) (c .before .before .before .before .along .ensures))
-    (c .before .before .before .site-fault .ensures .0) (c .before .found .given .1) ∙ c .before .before .before .before .before .before .before .loop .inv .1 ∙ ap (λ (k : ℕ). tableFault (blockOf (c .before .before .before .before .before .before .before .before .before .before .args .s) (c .before .before .before .before .before .before .before .before .before .before .args .samples .now) (c .before .before .before .before .before .before .before .before .before .before .args .cuts .now)) (7 * k) (7 * c .before .before .before .before .before .before .before .before .before .before .args .q .own)) (c .before .before .before .before .before .before .before .before .line-length .ensures .0)
+    let c4 = c .before .before .before .before in
+    let c6 = c4 .before .before in
+    let c7 = c6 .before in
+    let c8 = c7 .before in
+    let c10 = c8 .before .before in
+    point-over _ _ _ _ _ _ _ _ (c6 .loop-test .taken)
+    (part-is (7 * (c10 .args .q .own + c7 .loop .x)) (c10 .args .cuts .now))
+    (ap (λ (t : Site). crossingsAt (blockOf (c10 .args .s) (c10 .args .samples .now) []) (t .own)) (c4 .along .ensures))
+    (c .before .before .before .site-fault .ensures .0) (c .before .found .given .1) ∙ c7 .loop .inv .1 ∙ ap (λ (k : ℕ). tableFault (blockOf (c10 .args .s) (c10 .args .samples .now) (c10 .args .cuts .now)) (7 * k) (7 * c10 .args .q .own)) (c8 .line-length .ensures .0)
 
 enum-known-found-2 : tie.Need-enum-known-found-2 Inv-loop μ-loop
 enum-known-found-2 c = search needs
 
 add-t21 : tie.Need-add-t21 Inv-loop μ-loop
 add-t21 c =
+    let c8 = c .before .before .before .before .before .before .before .before in
+    let c10 = c8 .before .before in
     let h = rw (c .before .found2 .given .1) at (c .before .before .before .site-fault .ensures .1) in
-    let f = line-fits (c .before .before .before .before .before .before .before .before .before .before .pre .1) (c .before .before .before .before .before .before .before .before .before .before .pre .0 .sized) in let n = points-small (c .before .before .before .before .before .before .before .before .before .before .args .s) (c .before .before .before .before .before .before .before .before .before .before .pre .0 .sized) in let e = c .before .before .before .before .before .before .before .before .line-length .ensures .0 in omega arith
+    let f = line-fits (c10 .pre .1) (c10 .pre .0 .sized) in let n = points-small (c10 .args .s) (c10 .pre .0 .sized) in let e = c8 .line-length .ensures .0 in omega arith
 
 returns-2 : tie.Need-returns-2 Inv-loop μ-loop
 returns-2 c =
-    point-over _ _ _ _ _ _ _ _ (c .before .before .before .before .before .before .loop-test .taken)
-    (part-is (7 * (c .before .before .before .before .before .before .before .before .before .before .args .q .own + c .before .before .before .before .before .before .before .loop .x)) (c .before .before .before .before .before .before .before .before .before .before .args .cuts .now))
-    (ap (λ (t : Site). crossingsAt (blockOf (c .before .before .before .before .before .before .before .before .before .before .args .s) (c .before .before .before .before .before .before .before .before .before .before .args .samples .now) []) (t .own)) (c .before .before .before .before .along .ensures))
-    (c .before .before .before .site-fault .ensures .0) (c .before .found2 .given .1) ∙ c .before .before .before .before .before .before .before .loop .inv .1 ∙ ap (λ (k : ℕ). tableFault (blockOf (c .before .before .before .before .before .before .before .before .before .before .args .s) (c .before .before .before .before .before .before .before .before .before .before .args .samples .now) (c .before .before .before .before .before .before .before .before .before .before .args .cuts .now)) (7 * k) (7 * c .before .before .before .before .before .before .before .before .before .before .args .q .own)) (c .before .before .before .before .before .before .before .before .line-length .ensures .0)
+    let c4 = c .before .before .before .before in
+    let c6 = c4 .before .before in
+    let c7 = c6 .before in
+    let c8 = c7 .before in
+    let c10 = c8 .before .before in
+    point-over _ _ _ _ _ _ _ _ (c6 .loop-test .taken)
+    (part-is (7 * (c10 .args .q .own + c7 .loop .x)) (c10 .args .cuts .now))
+    (ap (λ (t : Site). crossingsAt (blockOf (c10 .args .s) (c10 .args .samples .now) []) (t .own)) (c4 .along .ensures))
+    (c .before .before .before .site-fault .ensures .0) (c .before .found2 .given .1) ∙ c7 .loop .inv .1 ∙ ap (λ (k : ℕ). tableFault (blockOf (c10 .args .s) (c10 .args .samples .now) (c10 .args .cuts .now)) (7 * k) (7 * c10 .args .q .own)) (c8 .line-length .ensures .0)
 
 add-x : tie.Need-add-x Inv-loop μ-loop
 add-x c =
-    let e = c .before .before .before .before .before .before .before .line-length .ensures .1 in omega arith
+    let c7 = c .before .before .before .before .before .before .before in
+    let e = c7 .line-length .ensures .1 in omega arith
 
 loop-less : tie.Need-loop-less Inv-loop μ-loop
 loop-less c = omega arith
 
 loop-again : tie.Need-loop-again Inv-loop μ-loop
-loop-again c = (
-  omega arith,
-  point-over _ _ _ _ _ _ _ _ (c .before .before .before .before .before .loop-test .taken)
-      (part-is (7 * (c .before .before .before .before .before .before .before .before .before .args .q .own + c .before .before .before .before .before .before .loop .x)) (c .before .before .before .before .before .before .before .before .before .args .cuts .now))
-      (ap (λ (t : Site). crossingsAt (blockOf (c .before .before .before .before .before .before .before .before .before .args .s) (c .before .before .before .before .before .before .before .before .before .args .samples .now) []) (t .own)) (c .before .before .before .along .ensures))
-      (c .before .before .site-fault .ensures .0) (c .enum-told .given .1) ∙ c .before .before .before .before .before .before .loop .inv .1,
-)
+loop-again c =
+    let c5 = c .before .before .before .before .before in
+    let c6 = c5 .before in
+    let c9 = c6 .before .before .before in (
+      omega arith,
+      point-over _ _ _ _ _ _ _ _ (c5 .loop-test .taken)
+          (part-is (7 * (c9 .args .q .own + c6 .loop .x)) (c9 .args .cuts .now))
+          (ap (λ (t : Site). crossingsAt (blockOf (c9 .args .s) (c9 .args .samples .now) []) (t .own)) (c .before .before .before .along .ensures))
+          (c .before .before .site-fault .ensures .0) (c .enum-told .given .1) ∙ c6 .loop .inv .1,
+    )
 
 returns-3 : tie.Need-returns-3 Inv-loop μ-loop
 returns-3 c =
-    sym (none-left _ _ _ _ (c .loop-test .left)) ∙ c .before .loop .inv .1 ∙ ap (λ (k : ℕ). tableFault (blockOf (c .before .before .before .before .args .s) (c .before .before .before .before .args .samples .now) (c .before .before .before .before .args .cuts .now)) (7 * k) (7 * c .before .before .before .before .args .q .own)) (c .before .before .line-length .ensures .0)
+    let c4 = c .before .before .before .before in
+    sym (none-left _ _ _ _ (c .loop-test .left)) ∙ c .before .loop .inv .1 ∙ ap (λ (k : ℕ). tableFault (blockOf (c4 .args .s) (c4 .args .samples .now) (c4 .args .cuts .now)) (7 * k) (7 * c4 .args .q .own)) (c .before .before .line-length .ensures .0)
 
 pub line-fault-spec : {M : Type 1} → statement M
 line-fault-spec =

@@ -23,7 +23,8 @@ point-fault-requires c κs = search needs
 
 returns-2 : tie.Need-returns-2
 returns-2 c =
-    (c .point-fault .ensures .0 ∙ ap (λ (m : List Bool). sevenFault m (c .before .before .before .before .before .args .bytes .now)) (c .before .crossings .ensures), c .point-fault .ensures .1)
+    let c5 = c .before .before .before .before .before in
+    (c .point-fault .ensures .0 ∙ ap (λ (m : List Bool). sevenFault m (c5 .args .bytes .now)) (c .before .crossings .ensures), c .point-fault .ensures .1)
 
 pub site-fault-spec : {M : Type 1} → statement M
 site-fault-spec =

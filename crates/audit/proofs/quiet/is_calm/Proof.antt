@@ -57,7 +57,8 @@ loop-less c = omega arith
 
 loop-again : tie.Need-loop-again Inv-loop μ-loop
 loop-again c =
-    (omega arith, below-more _ _ (c .before .before .before .before .before .loop .inv .1) (sym (opposed-handed _ _ (c .before .before .before .opposite-arg .given) (c .before .before .opposite-arg2 .given)) ∙ sym (c .before .opposite .ensures) ∙ c .if1 .left))
+    let c5 = c .before .before .before .before .before in
+    (omega arith, below-more _ _ (c5 .loop .inv .1) (sym (opposed-handed _ _ (c .before .before .before .opposite-arg .given) (c .before .before .opposite-arg2 .given)) ∙ sym (c .before .opposite .ensures) ∙ c .if1 .left))
 
 returns-2 : tie.Need-returns-2 Inv-loop μ-loop
 returns-2 c = λ t j l. c .before .loop .inv .1 j (omega arith)

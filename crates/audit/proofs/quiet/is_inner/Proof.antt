@@ -17,15 +17,24 @@ add-if1 c = omega (arith, odd-small (c .before .before .args .q .kind), c .befor
 
 add-if2 : tie.Need-add-if2
 add-if2 c =
-    omega (arith, odd-small (c .before .before .before .before .before .args .q .kind), c .before .before .before .before .odd-of .ensures)
+    let c4 = c .before .before .before .before in
+    let c5 = c4 .before in
+    omega (arith, odd-small (c5 .args .q .kind), c4 .odd-of .ensures)
 
 add-result : tie.Need-add-result
 add-result c =
-    omega (arith, odd-small (c .before .before .before .before .before .before .before .before .before .before .before .before .args .q .kind), c .before .before .before .before .before .before .before .before .before .before .before .odd-of .ensures)
+    let c11 = c .before .before .before .before .before .before .before .before .before .before .before in
+    let c12 = c11 .before in
+    omega (arith, odd-small (c12 .args .q .kind), c11 .odd-of .ensures)
 
 returns : tie.Need-returns
 returns c =
-    λ t. record { x-low = c .before .before .if4 .taken; x-high = omega (arith, ltb-true (c .before .before .before .before .before .before .before .before .before .before .before .before .before .args .q .x + c .before .before .before .before .before .before .before .before .before .before .before .before .odd-of .result) (c .before .before .before .before .before .before .before .before .before .before .before .before .before .args .s .nx) t, c .before .before .before .before .before .before .before .before .before .before .before .before .odd-of .ensures); y-low = c .before .before .before .before .if3 .taken; y-high = omega (arith, c .before .before .before .before .before .before .if2 .taken, c .before .before .before .before .before .before .before .before .before .before .before .before .odd-of .ensures); z-high = omega (arith, c .before .before .before .before .before .before .before .before .before .if1 .taken, c .before .before .before .before .before .before .before .before .before .before .before .before .odd-of .ensures) }
+    let c4 = c .before .before .before .before in
+    let c6 = c4 .before .before in
+    let c9 = c6 .before .before .before in
+    let c12 = c9 .before .before .before in
+    let c13 = c12 .before in
+    λ t. record { x-low = c .before .before .if4 .taken; x-high = omega (arith, ltb-true (c13 .args .q .x + c12 .odd-of .result) (c13 .args .s .nx) t, c12 .odd-of .ensures); y-low = c4 .if3 .taken; y-high = omega (arith, c6 .if2 .taken, c12 .odd-of .ensures); z-high = omega (arith, c9 .if1 .taken, c12 .odd-of .ensures) }
 
 returns-2 : tie.Need-returns-2
 returns-2 c = λ t. absurd (subst T (sym t) tt)

@@ -20,15 +20,19 @@ ends-requires c κs =
 
 is-calm-requires : tie.Need-is-calm-requires
 is-calm-requires c κs =
-    let a = c .before .before .before .before .pre .0 in
-    ((omega (arith, a .long, a .below), omega (arith, a .long, points-small (c .before .before .before .before .args .s) (a .sized))), inner-in (c .before .before .before .before .args .s) (c .before .before .before .before .args .samples .now) (c .before .before .before .before .args .q) (c .before .before .before .before .pre .0) (c .before .before .is-inner .ensures (c .before .if1 .taken)) _ (c .ends .ensures))
+    let c4 = c .before .before .before .before in
+    let a = c4 .pre .0 in
+    ((omega (arith, a .long, a .below), omega (arith, a .long, points-small (c4 .args .s) (a .sized))), inner-in (c4 .args .s) (c4 .args .samples .now) (c4 .args .q) (c4 .pre .0) (c .before .before .is-inner .ensures (c .before .if1 .taken)) _ (c .ends .ensures))
 
 is-blank-requires : tie.Need-is-blank-requires
 is-blank-requires c κs = search needs
 
 returns : tie.Need-returns
 returns c =
-    λ t. quiet-fine (c .before .before .before .before .before .before .before .args .s) (c .before .before .before .before .before .before .before .args .samples .now) (c .before .before .before .before .before .before .before .args .q) (c .before .before .before .before .before .before .before .pre .0) (c .before .before .before .before .before .is-inner .ensures (c .before .before .before .before .if1 .taken)) _ (c .before .before .before .ends .ensures) (c .before .before .before .before .before .before .before .args .bytes .now) (c .before .before .is-calm .ensures (c .before .if2 .taken)) (c .is-blank .ensures t)
+    let c4 = c .before .before .before .before in
+    let c5 = c4 .before in
+    let c7 = c5 .before .before in
+    λ t. quiet-fine (c7 .args .s) (c7 .args .samples .now) (c7 .args .q) (c7 .pre .0) (c5 .is-inner .ensures (c4 .if1 .taken)) _ (c .before .before .before .ends .ensures) (c7 .args .bytes .now) (c .before .before .is-calm .ensures (c .before .if2 .taken)) (c .is-blank .ensures t)
 
 returns-2 : tie.Need-returns-2
 returns-2 c = λ t. absurd (subst T (sym t) tt)

@@ -32,7 +32,8 @@ is-plus-requires c κs = search needs
 returns : tie.Need-returns Inv-loop μ-loop
 unfolding plusAt
 returns c =
-    sym (search-hit _ _ _ (c .before .before .before .loop-test .taken) (sym (plus-handed _ (c .before .before .is-plus-arg .given)) ∙ sym (c .before .is-plus .ensures) ∙ c .if1 .taken)) ∙ c .before .before .before .before .loop .inv .2
+    let c4 = c .before .before .before .before in
+    sym (search-hit _ _ _ (c .before .before .before .loop-test .taken) (sym (plus-handed _ (c .before .before .is-plus-arg .given)) ∙ sym (c .before .is-plus .ensures) ∙ c .if1 .taken)) ∙ c4 .loop .inv .2
 
 add-p : tie.Need-add-p Inv-loop μ-loop
 add-p c = omega arith
@@ -43,7 +44,8 @@ loop-less c = omega arith
 loop-again : tie.Need-loop-again Inv-loop μ-loop
 unfolding plusAt
 loop-again c =
-    (omega arith, omega arith, search-miss _ _ _ (c .before .before .before .loop-test .taken) (sym (plus-handed _ (c .before .before .is-plus-arg .given)) ∙ sym (c .before .is-plus .ensures) ∙ c .if1 .left) ∙ c .before .before .before .before .loop .inv .2)
+    let c4 = c .before .before .before .before in
+    (omega arith, omega arith, search-miss _ _ _ (c .before .before .before .loop-test .taken) (sym (plus-handed _ (c .before .before .is-plus-arg .given)) ∙ sym (c .before .is-plus .ensures) ∙ c .if1 .left) ∙ c4 .loop .inv .2)
 
 returns-2 : tie.Need-returns-2 Inv-loop μ-loop
 returns-2 c =

@@ -43,23 +43,29 @@ is-outermost-requires c κs =
 
 returns : tie.Need-returns
 returns c =
-    one (tests (c .before .before .before .before .args .s) (c .before .before .before .before .args .q)) (c .before .is-outermost .ensures ∙ ap (λ (m : ℕ). outermost m (c .before .before .before .before .args .q .y)) (own-grid (c .before .before .before .before .args .q .kind) (c .before .before .before .before .args .s .ny) _ (c .before .before .before .odd-of .ensures))) (c .if1 .taken)
+    let c4 = c .before .before .before .before in
+    one (tests (c4 .args .s) (c4 .args .q)) (c .before .is-outermost .ensures ∙ ap (λ (m : ℕ). outermost m (c4 .args .q .y)) (own-grid (c4 .args .q .kind) (c4 .args .s .ny) _ (c .before .before .before .odd-of .ensures))) (c .if1 .taken)
 
 add-is-outermost-2 : tie.Need-add-is-outermost-2
 add-is-outermost-2 c = search needs
 
 sub-is-outermost-2 : tie.Need-sub-is-outermost-2
 sub-is-outermost-2 c =
-    omega (arith, odd-small (c .before .before .before .before .before .args .q .kind), c .before .before .before .before .odd-of .ensures)
+    let c4 = c .before .before .before .before in
+    let c5 = c4 .before in
+    omega (arith, odd-small (c5 .args .q .kind), c4 .odd-of .ensures)
 
 is-outermost-requires-2 : tie.Need-is-outermost-requires-2
 is-outermost-requires-2 c κs =
-    let g = sited (line-stands (c .before .before .before .before .before .pre .1)) in omega (arith, site-small (c .before .before .before .before .before .args .s) (c .before .before .before .before .before .args .q) (c .before .before .before .before .before .pre .0) g)
+    let c5 = c .before .before .before .before .before in
+    let g = sited (line-stands (c5 .pre .1)) in omega (arith, site-small (c5 .args .s) (c5 .args .q) (c5 .pre .0) g)
 
 returns-2 : tie.Need-returns-2
 returns-2 c =
-    another (tests (c .before .before .before .before .before .before .args .s) (c .before .before .before .before .before .before .args .q)) (c .before .before .before .is-outermost .ensures ∙ ap (λ (m : ℕ). outermost m (c .before .before .before .before .before .before .args .q .y)) (own-grid (c .before .before .before .before .before .before .args .q .kind) (c .before .before .before .before .before .before .args .s .ny) _ (c .before .before .before .before .before .odd-of .ensures))) (c .before .before .if1 .left)
-    (c .is-outermost2 .ensures ∙ ap (λ (m : ℕ). outermost m (c .before .before .before .before .before .before .args .q .z)) (own-grid (c .before .before .before .before .before .before .args .q .kind) (c .before .before .before .before .before .before .args .s .nz) _ (c .before .before .before .before .before .odd-of .ensures)))
+    let c5 = c .before .before .before .before .before in
+    let c6 = c5 .before in
+    another (tests (c6 .args .s) (c6 .args .q)) (c .before .before .before .is-outermost .ensures ∙ ap (λ (m : ℕ). outermost m (c6 .args .q .y)) (own-grid (c6 .args .q .kind) (c6 .args .s .ny) _ (c5 .odd-of .ensures))) (c .before .before .if1 .left)
+    (c .is-outermost2 .ensures ∙ ap (λ (m : ℕ). outermost m (c6 .args .q .z)) (own-grid (c6 .args .q .kind) (c6 .args .s .nz) _ (c5 .odd-of .ensures)))
 
 pub is-outer-spec : {M : Type 1} → statement M
 is-outer-spec =

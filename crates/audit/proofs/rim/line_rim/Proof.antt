@@ -27,9 +27,10 @@ first-plus-requires c κs =
 
 returns : tie.Need-returns
 returns c =
-    let e : c .before .before .before .before .args .q .own + c .before .before .before .line-length .result - c .before .before .before .before .args .q .own ≡ c .before .before .before .line-length .result = omega arith in
-    c .first-plus .ensures ∙ ap (λ (k : ℕ). firstFrom (plusAt (c .before .before .before .before .args .samples .now)) k (c .before .before .before .before .args .q .own)) (e ∙ c .before .before .before .line-length .ensures .0)
-    ∙ outer-line (c .before .before .before .before .args .s) (c .before .before .before .before .args .samples .now) (c .before .before .before .before .pre .1 .1) (sym (c .before .before .is-outer .ensures) ∙ c .before .if1 .taken)
+    let c4 = c .before .before .before .before in
+    let e : c4 .args .q .own + c .before .before .before .line-length .result - c4 .args .q .own ≡ c .before .before .before .line-length .result = omega arith in
+    c .first-plus .ensures ∙ ap (λ (k : ℕ). firstFrom (plusAt (c4 .args .samples .now)) k (c4 .args .q .own)) (e ∙ c .before .before .before .line-length .ensures .0)
+    ∙ outer-line (c4 .args .s) (c4 .args .samples .now) (c4 .pre .1 .1) (sym (c .before .before .is-outer .ensures) ∙ c .before .if1 .taken)
 
 mul-is-plus : tie.Need-mul-is-plus
 mul-is-plus c = search needs
@@ -43,7 +44,9 @@ is-plus-requires c κs = search needs
 returns-2 : tie.Need-returns-2
 unfolding plusAt
 returns-2 c =
-    inner-first (c .before .before .before .before .before .before .args .s) (c .before .before .before .before .before .before .args .samples .now) (c .before .before .before .before .before .before .pre .1 .1) (c .before .before .before .before .before .before .pre .0) (sym (c .before .before .before .before .is-outer .ensures) ∙ c .before .before .before .if1 .left) (sym (plus-handed _ (c .before .before .is-plus-arg .given)) ∙ sym (c .before .is-plus .ensures) ∙ c .if2 .taken)
+    let c4 = c .before .before .before .before in
+    let c6 = c4 .before .before in
+    inner-first (c6 .args .s) (c6 .args .samples .now) (c6 .pre .1 .1) (c6 .pre .0) (sym (c4 .is-outer .ensures) ∙ c .before .before .before .if1 .left) (sym (plus-handed _ (c .before .before .is-plus-arg .given)) ∙ sym (c .before .is-plus .ensures) ∙ c .if2 .taken)
 
 sub-last : tie.Need-sub-last
 sub-last c = search needs
@@ -53,7 +56,9 @@ mul-is-plus-2 c = search needs
 
 shared-slice-copy-out-is-plus-2 : tie.Need-shared-slice-copy-out-is-plus-2
 shared-slice-copy-out-is-plus-2 c =
-    let f = line-fits (c .before .before .before .before .before .before .pre .1 .1) (c .before .before .before .before .before .before .pre .0) in let n = points-small (c .before .before .before .before .before .before .args .s) (c .before .before .before .before .before .before .pre .0) in let e = c .before .before .before .before .before .line-length .ensures .0 in omega (arith, c .before .before .before .before .before .before .pre .1 .0)
+    let c5 = c .before .before .before .before .before in
+    let c6 = c5 .before in
+    let f = line-fits (c6 .pre .1 .1) (c6 .pre .0) in let n = points-small (c6 .args .s) (c6 .pre .0) in let e = c5 .line-length .ensures .0 in omega (arith, c6 .pre .1 .0)
 
 is-plus-requires-2 : tie.Need-is-plus-requires-2
 is-plus-requires-2 c κs = search needs
@@ -61,12 +66,24 @@ is-plus-requires-2 c κs = search needs
 returns-3 : tie.Need-returns-3
 unfolding plusAt
 returns-3 c =
-    inner-last (c .before .before .before .before .before .before .before .before .before .args .s) (c .before .before .before .before .before .before .before .before .before .args .samples .now) (c .before .before .before .before .before .before .before .before .before .pre .1 .1) (c .before .before .before .before .before .before .before .before .before .pre .0) (sym (c .before .before .before .before .before .before .before .is-outer .ensures) ∙ c .before .before .before .before .before .before .if1 .left) _ (let e = c .before .before .before .before .before .before .before .before .line-length .ensures .0 in let f = c .before .before .before .before .before .before .before .before .line-length .ensures .1 in omega arith) (sym (plus-handed _ (c .before .before .before .before .before .is-plus-arg .given)) ∙ sym (c .before .before .before .before .is-plus .ensures) ∙ c .before .before .before .if2 .left) (sym (plus-handed _ (c .before .before .is-plus-arg2 .given)) ∙ sym (c .before .is-plus2 .ensures) ∙ c .if3 .taken)
+    let c4 = c .before .before .before .before in
+    let c5 = c4 .before in
+    let c6 = c5 .before in
+    let c7 = c6 .before in
+    let c8 = c7 .before in
+    let c9 = c8 .before in
+    inner-last (c9 .args .s) (c9 .args .samples .now) (c9 .pre .1 .1) (c9 .pre .0) (sym (c7 .is-outer .ensures) ∙ c6 .if1 .left) _ (let e = c8 .line-length .ensures .0 in let f = c8 .line-length .ensures .1 in omega arith) (sym (plus-handed _ (c5 .is-plus-arg .given)) ∙ sym (c4 .is-plus .ensures) ∙ c .before .before .before .if2 .left) (sym (plus-handed _ (c .before .before .is-plus-arg2 .given)) ∙ sym (c .before .is-plus2 .ensures) ∙ c .if3 .taken)
 
 returns-4 : tie.Need-returns-4
 unfolding plusAt
 returns-4 c =
-    ap (λ (k : ℕ). c .before .before .before .before .before .before .before .before .before .args .q .own + k) (c .before .before .before .before .before .before .before .before .line-length .ensures .0) ∙ inner-none (c .before .before .before .before .before .before .before .before .before .args .s) (c .before .before .before .before .before .before .before .before .before .args .samples .now) (c .before .before .before .before .before .before .before .before .before .pre .1 .1) (c .before .before .before .before .before .before .before .before .before .pre .0) (sym (c .before .before .before .before .before .before .before .is-outer .ensures) ∙ c .before .before .before .before .before .before .if1 .left) (c .before .before .before .before .before .before .before .before .before .args .q .own + c .before .before .before .before .before .before .before .before .line-length .result - 1) (let e = c .before .before .before .before .before .before .before .before .line-length .ensures .0 in let f = c .before .before .before .before .before .before .before .before .line-length .ensures .1 in omega arith) (sym (plus-handed _ (c .before .before .before .before .before .is-plus-arg .given)) ∙ sym (c .before .before .before .before .is-plus .ensures) ∙ c .before .before .before .if2 .left) (sym (plus-handed _ (c .before .before .is-plus-arg2 .given)) ∙ sym (c .before .is-plus2 .ensures) ∙ c .if3 .left)
+    let c4 = c .before .before .before .before in
+    let c5 = c4 .before in
+    let c6 = c5 .before in
+    let c7 = c6 .before in
+    let c8 = c7 .before in
+    let c9 = c8 .before in
+    ap (λ (k : ℕ). c9 .args .q .own + k) (c8 .line-length .ensures .0) ∙ inner-none (c9 .args .s) (c9 .args .samples .now) (c9 .pre .1 .1) (c9 .pre .0) (sym (c7 .is-outer .ensures) ∙ c6 .if1 .left) (c9 .args .q .own + c8 .line-length .result - 1) (let e = c8 .line-length .ensures .0 in let f = c8 .line-length .ensures .1 in omega arith) (sym (plus-handed _ (c5 .is-plus-arg .given)) ∙ sym (c4 .is-plus .ensures) ∙ c .before .before .before .if2 .left) (sym (plus-handed _ (c .before .before .is-plus-arg2 .given)) ∙ sym (c .before .is-plus2 .ensures) ∙ c .if3 .left)
 
 pub line-rim-spec : {M : Type 1} → statement M
 line-rim-spec =
