@@ -2,14 +2,17 @@
 use Prim.Native.Nat.{ℕ, zero, suc, _+_, _-_, _≤_, _<_}
 use native.Mathlib.Omega.{arith}
 use native.Mathlib.Nat.{not-suc-le-zero}
-use mathlib.Core.Path.{_≡_, refl, sym, _∙_, ap, subst}
+use mathlib.Core.Path.{_≡_, refl, sym, _∙_, subst}
 use mathlib.Core.Logic.{_⊎_, inl, inr}
+use mathlib.Core.Bool.{Bool, true, not}
 use mathlib.Core.List.{List, [], _∷_, _++_}
+use lib.Dec.{T, T-not}
 use lib.ListN.{length, getD, length-append, List·getD-append}
 use lib.Seq.{getD-append-add}
 use Rattle.basics.specs.Lists.{gather, from, below}
-use Rattle.basics.proofs.Test.{Member, here, there, lt-or}
-use Rattle.basics.proofs.Tested.{append-l, append-r}
+use Rattle.basics.proofs.Test.{_&_, and-l, and-r, every, every-use, Member, here, there, lt-or}
+use Rattle.basics.proofs.Finite.{Finite}
+use Rattle.basics.proofs.Tested.{append-l, append-r, same, same-i}
 
 -- a list in which nothing stands twice
 pub data NoRepeats {A : Type 0} : List A → Type 0 where
@@ -29,7 +32,20 @@ module _ {A : Type 0} where
   append-once : (l m : List A) → NoRepeats l → NoRepeats m → ((a : A) → Member a l → Member a m → ⊥) → NoRepeats (l ++ m)
   append-once [] m p q d = q
   append-once (x ∷ l) m (more n p) q d =
-      more {x = x} (λ i. elim (append-cases l {m = m} i) [ inl j ↦ n j | inr j ↦ d x here j ]) (append-once l m p q (λ a i j. d a (there i) j))
+      more {x = x} (λ i. elim (append-cases l {m = m} i) [ inl j ↦ n j | inr j ↦ d x here j ])
+      (append-once l m p q (λ a i j. d a (there i) j))
+
+-- a list of elements of a finite type, by a test
+module _ {A : Type 0} (F : Finite A) where
+  abbrev pub distinct : List A → Bool
+  distinct [] = true
+  distinct (x ∷ l) = every (λ y. not (same F x y)) l & distinct l
+
+  pub distinct-once : (l : List A) → T (distinct l) → NoRepeats l
+  distinct-once [] t = empty
+  distinct-once (x ∷ l) t =
+      more {x = x} (λ m. T-not (same F x x) (every-use (λ y. not (same F x y)) l (and-l _ _ t) m) (same-i F x x refl))
+      (distinct-once l (and-r (every (λ y. not (same F x y)) l) _ t))
 
 -- the numbers below a bound
 from-bounds : {k : ℕ} (a n : ℕ) → Member k (from a n) → (a ≤ k) × (k < a + n)
@@ -72,7 +88,8 @@ module _ {A B : Type 0} (f : A → List B) where
   gather-part (x ∷ l) m = elim (append-cases (f x) m) [ inl q ↦ (x, here, q) | inr q ↦ later (gather-part l q) ]
 
   -- nothing stands twice if not in the list of parts, not in a part and not in two parts
-  pub gather-once : (l : List A) → NoRepeats l → ((x : A) → NoRepeats (f x)) → ((x z : A) (y : B) → Member y (f x) → Member y (f z) → x ≡ z) → NoRepeats (gather f l)
+  pub gather-once : (l : List A) → NoRepeats l → ((x : A) → NoRepeats (f x))
+      → ((x z : A) (y : B) → Member y (f x) → Member y (f z) → x ≡ z) → NoRepeats (gather f l)
   unfolding gather
   gather-once [] p q d = empty
   gather-once (x ∷ l) (more n p) q d =
@@ -107,7 +124,8 @@ module _ {A B : Type 0} (f : A → List B) where
     found-at here h = (r, first h refl)
     found-at {l = z ∷ l} (there m) h = let u = found-at m h in (length (f z) + u .0, after (u .1) refl)
 
-  find-step : (z : A) (l : List A) (j : ℕ) → j < length (f z ++ gather f l) → ((k : ℕ) → k < length (gather f l) → (x : A) × (r : ℕ) × Found x r l k)
+  find-step : (z : A) (l : List A) (j : ℕ) → j < length (f z ++ gather f l)
+      → ((k : ℕ) → k < length (gather f l) → (x : A) × (r : ℕ) × Found x r l k)
       → (j < length (f z)) ⊎ (length (f z) ≤ j) → (x : A) × (r : ℕ) × Found x r (z ∷ l) j
   find-step z l j h rec (inl p) = (z, j, first p refl)
   find-step z l j h rec (inr p) =
@@ -124,7 +142,9 @@ module _ {A B : Type 0} (f : A → List B) where
   found-same (first h e) (first g d) = (refl, omega arith)
   found-same (first h e) (after q d) = absurd (omega arith)
   found-same (after p e) (first g d) = absurd (omega arith)
-  found-same {z = y} {s = s} (after {l = l} {k = k} p e) (after {k = j} q d) = let i : j ≡ k = omega arith in found-same p (subst (λ (i : ℕ). Found y s l i) i q)
+  found-same {z = y} {s = s} (after {l = l} {k = k} p e) (after {k = j} q d) =
+      let i : j ≡ k = omega arith in
+      found-same p (subst (λ (i : ℕ). Found y s l i) i q)
 
   pub found-once : {x : A} {r : ℕ} {l : List A} {k j : ℕ} → NoRepeats l → Found x r l k → Found x r l j → k ≡ j
   found-once (more n o) (first h e) (first g d) = omega arith

@@ -1,8 +1,8 @@
 -- Identities of integers by `omega`: an integer is a difference of two natural numbers, and `omega` compares what is left once all
 -- products are multiplied out. Besides: when a combination of positive integers is positive. Assumes nothing.
-use mathlib.Core.Path.{_≡_, refl, ap, _∙_, subst}
+use mathlib.Core.Path.{_≡_, refl, ap}
 use mathlib.Core.Bool.{Bool, true, false, not, cond}
-use Prim.Native.Nat.{ℕ, zero, suc, _+_, _*_, _-_, _<_, _≤_}
+use Prim.Native.Nat.{ℕ, zero, suc, _+_, _*_, _-_, _<_}
 use native.Mathlib.Omega.{arith}
 use lib.Dec.{T, ltb, lt→ltb, ltb→lt, nltb→le}
 use lib.IntN.{ℤ, pos, negsuc, _+ℤ_, _-ℤ_, _*ℤ_, negℤ, subℕ, *ℤ-comm, negℤ-+ℤ, negℤ-negℤ, +ℤ-assoc, +ℤ-comm}
@@ -27,7 +27,8 @@ sub-cases false x y P f g = g tt
 
 sub-is : (a b : ℕ) → Is (subℕ a b) a b
 sub-is a b =
-    sub-cases (ltb a b) (negsuc (b - suc a)) (pos (a - b)) (λ z. Is z a b) (λ t. omega (arith, ltb→lt a b t)) (λ t. omega (arith, nltb→le a b t))
+    sub-cases (ltb a b) (negsuc (b - suc a)) (pos (a - b)) (λ z. Is z a b) (λ t. omega (arith, ltb→lt a b t))
+    (λ t. omega (arith, nltb→le a b t))
 
 add-is : (x y : ℤ) → Is (x +ℤ y) (above x + above y) (beneath x + beneath y)
 add-is (pos a) (pos b) = omega arith
@@ -74,7 +75,14 @@ sub-split x y p n q m e f = omega (arith, add-is x (negℤ y), neg-is y)
 
 pub mul-split : (x y : ℤ) (p n q m : ℕ) → Is x p n → Is y q m → Is (x *ℤ y) (p * q + n * m) (p * m + n * q)
 mul-split x y p n q m e f =
-    omega (arith, mul-is x y, ap (λ (z : ℕ). z * above y) e, ap (λ (z : ℕ). z * beneath y) e, ap (λ (z : ℕ). p * z) f, ap (λ (z : ℕ). n * z) f)
+    omega (
+      arith,
+      mul-is x y,
+      ap (λ (z : ℕ). z * above y) e,
+      ap (λ (z : ℕ). z * beneath y) e,
+      ap (λ (z : ℕ). p * z) f,
+      ap (λ (z : ℕ). n * z) f,
+    )
 
 pub neg-split : (x : ℤ) (p n : ℕ) → Is x p n → Is (negℤ x) n p
 neg-split x p n e = omega (arith, neg-is x)

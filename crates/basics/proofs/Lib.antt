@@ -1,7 +1,7 @@
-pub mod Test
 pub mod Finite
-pub mod Integer
-pub mod Search
-pub mod Mapped
-pub mod Tested
 pub mod Gather
+pub mod Integer
+pub mod Mapped
+pub mod Search
+pub mod Test
+pub mod Tested

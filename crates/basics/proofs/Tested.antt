@@ -1,14 +1,14 @@
 -- Computed tests over finite types and over pairs from them, equality tests among them, and what a passed test says. Assumes nothing.
-use Prim.Native.Nat.{ℕ, zero, suc, _<_}
+use Prim.Native.Nat.{ℕ, suc}
 use mathlib.Core.Path.{_≡_, refl, sym, _∙_, ap, subst}
-use mathlib.Core.Logic.{_⊎_, inl, inr}
-use mathlib.Core.Bool.{Bool, true, false, _||_}
+use mathlib.Core.Logic.{inl, inr}
+use mathlib.Core.Bool.{Bool, true, false}
 use mathlib.Core.List.{List, [], _∷_, _++_, map}
 use lib.Dec.{T, eqb, eqb→eq, eqb-refl}
 use lib.ListN.{getD}
 use Rattle.basics.specs.Choice.{if_then_else_}
-use Rattle.basics.proofs.Test.{_&_, and-l, and-r, and-i, Member, here, there, any, or-cases, or-l, or-r, every-use, T-true, true-T}
-use Rattle.basics.proofs.Finite.{Finite, each, each-use, each-i}
+use Rattle.basics.proofs.Test.{Member, here, there, any, or-cases, or-l, or-r, T-true, true-T}
+use Rattle.basics.proofs.Finite.{Finite, each, each-use}
 
 -- a test that every element passes, as a record, so that the test is inferred where the fact is used
 pub record Tested {A : Type 0} (F : Finite A) (f : A → Bool) : Type 0 where
@@ -44,7 +44,8 @@ module _ {A : Type 0} (f : A → Bool) where
   keep-i {a = a} here t = rw (T-true (f a) t) here
   keep-i {l = x ∷ xs} (there m) t = keep-step x (f x) (keep-i m t)
 
-  kept-step : {a x : A} {xs : List A} (l : List A) → (Member a xs → Member a l × T (f a)) → (b : Bool) → f x ≡ b → Member a (if b then x ∷ xs else xs) → Member a (x ∷ l) × T (f a)
+  kept-step : {a x : A} {xs : List A} (l : List A) → (Member a xs → Member a l × T (f a)) → (b : Bool) → f x ≡ b
+      → Member a (if b then x ∷ xs else xs) → Member a (x ∷ l) × T (f a)
   kept-step {x = x} l h true e here = (here, true-T (f x) e)
   kept-step l h true e (there p) = let r = h p in (there (r .0), r .1)
   kept-step l h false e p = let r = h p in (there (r .0), r .1)

@@ -2,3 +2,16 @@ pub mod Windings
 pub mod Pattern
 pub mod PatternTests
 pub mod PatternLaws
+pub mod Ascending
+pub mod Complex
+pub mod Neighbour
+pub mod NeighbourTests
+pub mod NeighbourLaws
+pub mod Lattice
+pub mod EdgeTests
+pub mod Ids
+pub mod Signed
+pub mod LatticeComplex
+pub mod Faces
+pub mod EntryTests
+pub mod RowIds

@@ -3,28 +3,28 @@
 use Prim.Native.Nat.{ℕ, _≤_, _<_}
 use native.Mathlib.Omega.{arith}
 use native.Mathlib.Nat.{not-suc-le-zero}
-use mathlib.Core.Path.{_≡_, refl, sym, _∙_, ap, subst}
+use mathlib.Core.Path.{_≡_, refl, sym, subst}
 use mathlib.Core.Logic.{_⊎_, inl, inr}
 use mathlib.Core.Bool.{Bool, true, false, not, _||_}
 use mathlib.Core.List.{List, [], _∷_}
-use lib.Dec.{T, eqb, eqb→eq, leb→le, T-not, not-T}
+use lib.Dec.{T, eqb, eqb→eq, leb→le, T-not}
 use lib.ListN.{length}
 use Rattle.basics.specs.Choice.{if_then_else_}
 use Rattle.basics.specs.Lists.{below}
-use Rattle.basics.proofs.Test.{_&_, and-l, and-r, and-i, imp, imp-use, or-cases, decide, T-true, F-false, eqb-of, every, below-use, any, Member, here, there}
+use Rattle.basics.proofs.Test.{_&_, and-l, and-r, and-i, imp-use, or-cases, decide, eqb-of, below-use, any, Member, here, there}
 use Rattle.basics.proofs.Finite.{each, each-use, each-i}
-use Rattle.basics.proofs.Tested.{tested, any-i, any-find, theBools, pairs, same, same-use, same-i, keep, keep-i, kept}
+use Rattle.basics.proofs.Tested.{tested, any-i, any-find, theBools, pairs, same, same-use, same-i, keep-i, kept}
 use Rattle.basics.proofs.Gather.{below-i, below-lt, member-length}
 use Rattle.moving.specs.declared.Label.{Label}
 use Rattle.moving.specs.declared.Label.the-variants.{Minus, Zero, Plus}
 use Rattle.moving.specs.Label.{isPlus, isZero}
 use Rattle.stencil.specs.Tetrahedron.{Vertex, v0, v1, v2, v3}
-use Rattle.stencil.specs.Row.{Row, row, Face, face, Third, rowAt, faceAt, faceOf, turned, exchanged, Opposite, Holds}
+use Rattle.stencil.specs.Row.{Row, Face, face, Third, rowAt, faceAt, faceOf, turned, Opposite, Holds}
 use Rattle.stencil.specs.Stencil.{Entry, between, rank}
 use Rattle.stencil.proofs.Corners.{theVertices, theThirds}
 use Rattle.faces.proofs.Pattern.{signedFor, rowIn, tip, side, onSide, shown, lift}
-use Rattle.faces.proofs.PatternTests.{Rows, sameEntry, sameFace, holds, others, alone, covers, coversAll, coversSide, zeros, plusOn, hasPlus}
-use Rattle.faces.proofs.PatternTests.{facing, within, showing, beside, fits, fitting, shows, showsIn, showingAll, differing, ascends, properAt, proper, labels, AllPatterns, fitting-ok, showingAll-ok, proper-ok}
+use Rattle.faces.proofs.PatternTests.{Rows, sameEntry, sameFace, holds, others, alone, covers, coversAll, coversSide, zeroPoint, zeros, plusOn, hasPlus}
+use Rattle.faces.proofs.PatternTests.{facing, within, showing, beside, fits, fitsAt, fitting, shows, showsIn, showsOn, showingAll, differing, ascends, properAt, proper, labels, AllPatterns, fitting-ok, showingAll-ok, proper-ok}
 
 -- equal entries and faces
 sameEntry-use : (x y : Entry Vertex) → T (sameEntry x y) → x ≡ y
@@ -49,7 +49,7 @@ holds-i : (r : Row (Entry Vertex)) (f : Face (Entry Vertex)) → Holds r f → T
 unfolding holds
 holds-i r f h =
     each-i theThirds (λ t. any (λ v. sameEntry (rowAt r v) (faceAt f t)) (theVertices .all))
-    (λ t. any-i (λ v. sameEntry (rowAt r v) (faceAt f t)) (theVertices .complete (h t .0)) (sameEntry-i (rowAt r (h t .0)) (faceAt f t) (h t .1)))
+    (λ t. any-i (λ v. sameEntry (rowAt r v) (faceAt f t)) (theVertices .complete (h t .0)) (sameEntry-i _ _ (h t .1)))
 
 if-cases : (a b c : Bool) → T (if a then b else c) → (T a × T b) ⊎ T c
 if-cases true b c t = inl (tt, t)
@@ -72,7 +72,7 @@ pub isPlus-i : (l : Label) → l ≡ Plus → T (isPlus l)
 unfolding isPlus
 isPlus-i l e = subst (λ (x : Label). T (isPlus x)) (sym e) tt
 
-all-patterns : (f : Bool → (Vertex → Label) → Bool) → AllPatterns f → (s : Bool) (l : Vertex → Label) → T (f s l)
+pub all-patterns : (f : Bool → (Vertex → Label) → Bool) → AllPatterns f → (s : Bool) (l : Vertex → Label) → T (f s l)
 all-patterns f ok s l = subst (λ (k : Vertex → Label). T (f s k)) (λ i v. is v i) (tested ok (s, (l v0, (l v1, (l v2, l v3)))))
   where
     is : (v : Vertex) → labels (l v0, (l v1, (l v2, l v3))) v ≡ l v
@@ -95,29 +95,30 @@ covers-use f v t =
     (c .0 .0, c .0 .1, same-use theVertices _ v (c .2))
 
 zeros-use : (l : Vertex → Label) (f : Face (Entry Vertex)) → T (zeros l f) → Zeros l f
-unfolding zeros
+unfolding zeros zeroPoint
 zeros-use l f h t e =
-    isZero-use _ (imp-use (same theVertices (tip false (faceAt f t)) (tip true (faceAt f t))) _ (each-use theThirds (λ t. imp (same theVertices (tip false (faceAt f t)) (tip true (faceAt f t))) (isZero (l (tip false (faceAt f t))))) h t) (same-i theVertices _ _ e))
+    isZero-use _ (imp-use (same theVertices (tip false (faceAt f t)) (tip true (faceAt f t))) _
+    (each-use theThirds (λ t. zeroPoint l (faceAt f t)) h t) (same-i theVertices _ _ e))
 
 -- only the r-th row holds a face
 abbrev pub Alone : Rows → ℕ → Face (Entry Vertex) → Type 0
 Alone rows r f = (m : ℕ) → m < length rows → Holds (rowIn rows m) f → m ≡ r
 
 module _ (rows : Rows) (r : ℕ) (f : Face (Entry Vertex)) where
-  other : ℕ → Bool
+  abbrev other : ℕ → Bool
   other m = not (eqb m r) & holds (rowIn rows m) f
 
   others-i : (m : ℕ) → m < length rows → Holds (rowIn rows m) f → (m ≡ r) ⊎ Member m (others rows r f)
   unfolding others
   others-i m h p = elim (decide (eqb m r)) [
     | inl t ↦ inl (eqb→eq m r t)
-    | inr t ↦ inr (keep-i (λ m. not (eqb m r) & holds (rowIn rows m) f) (below-i (length rows) m h) (and-i (not (eqb m r)) _ t (holds-i (rowIn rows m) f p)))
+    | inr t ↦ inr (keep-i other (below-i (length rows) m h) (and-i (not (eqb m r)) _ t (holds-i (rowIn rows m) f p)))
   ]
 
   others-use : (m : ℕ) → Member m (others rows r f) → (m < length rows) × (r ≡ m → ⊥)
   unfolding others
   others-use m p =
-      let k = kept (λ m. not (eqb m r) & holds (rowIn rows m) f) (below (length rows)) p in
+      let k = kept other (below (length rows)) p in
       (below-lt (length rows) (k .0), λ e. T-not (eqb m r) (and-l _ _ (k .1)) (eqb-of m r (sym e)))
 
   alone-of : (o : List ℕ) → others rows r f ≡ o → T (alone o) → Alone rows r f
@@ -151,11 +152,13 @@ module _ (s : Bool) (l : Vertex → Label) (r : ℕ) (v : Vertex) where
   of-inner : (o : List ℕ) → others all-rows r the-face ≡ o → T (coversAll the-face) → T (within l all-rows the-face o) → Fate s l r v
   unfolding within coversAll facing alone
   of-inner [] e c t =
-      free (λ u. covers-use the-face u (each-use theVertices (covers the-face) c u)) (alone-of all-rows r the-face [] e tt) (zeros-use l the-face t)
+      free (λ u. covers-use the-face u (each-use theVertices (covers the-face) c u)) (alone-of all-rows r the-face [] e tt)
+      (zeros-use l the-face t)
   of-inner (m ∷ []) e c t =
       let b = others-use all-rows r the-face m (subst (Member m) (sym e) here) in
       let w = any-find (facing all-rows the-face m) (pairs (theVertices .all) (theThirds .all)) t in
-      inner m (w .0 .0) (b .0) (b .1) (w .0 .1, sameFace-use _ _ (w .2)) (λ u. covers-use the-face u (each-use theVertices (covers the-face) c u))
+      inner m (w .0 .0) (b .0) (b .1) (w .0 .1, sameFace-use _ _ (w .2))
+      (λ u. covers-use the-face u (each-use theVertices (covers the-face) c u))
       (λ k h p. elim (others-i all-rows r the-face k h p) [ inl d ↦ inl d | inr d ↦ inr (only-one k (subst (Member k) e d)) ])
     where
       only-one : (k : ℕ) → Member k (m ∷ []) → k ≡ m
@@ -178,16 +181,19 @@ module _ (s : Bool) (l : Vertex → Label) (r : ℕ) (v : Vertex) where
       ])
 
   pub fate : r < length (signedFor s l) → Fate s l r v
-  unfolding fitting fits
+  unfolding fitting fitsAt fits
   fate h = elim (if-cases (coversAll the-face) _ _ t) [
     | inl c ↦ of-inner _ refl (c .0) (c .1)
-    | inr c ↦ (let q = any-find (beside s l the-face) (theVertices .all) (and-r (alone (others all-rows r the-face)) _ c) in of-side (and-l _ _ c) (q .0) (q .2))
+    | inr c ↦ (
+        let q = any-find (beside s l the-face) (theVertices .all) (and-r (alone (others all-rows r the-face)) _ c) in
+        of-side (and-l _ _ c) (q .0) (q .2))
   ]
     where
       t : T (fits s l the-face all-rows (others all-rows r the-face))
       t =
-          each-use theVertices (λ v. fits s l (faceOf (rowIn all-rows r) v) all-rows (others all-rows r (faceOf (rowIn all-rows r) v)))
-          (below-use (λ r. each theVertices (λ v. fits s l (faceOf (rowIn all-rows r) v) all-rows (others all-rows r (faceOf (rowIn all-rows r) v)))) (length all-rows) (all-patterns (λ s l. fitting s l (signedFor s l)) fitting-ok s l) r h) v
+          each-use theVertices (fitsAt s l all-rows r)
+          (below-use (λ r. each theVertices (fitsAt s l all-rows r)) (length all-rows)
+          (all-patterns (λ s l. fitting s l (signedFor s l)) fitting-ok s l) r h) v
 
 -- with a plus among the labels, a face that three labels put on a side is a face of one row
 pub record Showing (s : Bool) (l : Vertex → Label) (q : Vertex) (n : ℕ) : Type 0 where
@@ -200,18 +206,27 @@ pub record Showing (s : Bool) (l : Vertex → Label) (q : Vertex) (n : ℕ) : Ty
 
 module _ (s : Bool) (l : Vertex → Label) where
   pub shown-once : T (hasPlus l) → (q : Vertex) (n : ℕ) → n < length (onSide l q) → Showing s l q n
-  unfolding showingAll showsIn shows showing
+  unfolding showingAll showsOn showsIn shows showing
   shown-once p q n h =
       let x = any-find (λ r. any (shows s l (signedFor s l) q n r) (theVertices .all)) (below (length (signedFor s l))) t in
       let y = any-find (shows s l (signedFor s l) q n (x .0)) (theVertices .all) (x .2) in
       let f : Face (Entry Vertex) = faceOf (rowIn (signedFor s l) (x .0)) (y .0) in
-      let z = any-find (λ t. sameFace f (lift q (turned t (shown s l q n)))) (theThirds .all) (and-r (alone (others (signedFor s l) (x .0) f)) _ (y .2)) in
-      record { r = x .0; v = y .0; t = z .0; inside = below-lt _ (x .1); is = sameFace-use _ _ (z .2); only = alone-of (signedFor s l) (x .0) f _ refl (and-l _ _ (y .2)) }
+      let o : List ℕ = others (signedFor s l) (x .0) f in
+      let z = any-find (λ t. sameFace f (lift q (turned t (shown s l q n)))) (theThirds .all) (and-r (alone o) _ (y .2)) in
+      record {
+        r = x .0;
+        v = y .0;
+        t = z .0;
+        inside = below-lt _ (x .1);
+        is = sameFace-use _ _ (z .2);
+        only = alone-of (signedFor s l) (x .0) f o refl (and-l _ _ (y .2));
+      }
     where
       t : T (showsIn s l (signedFor s l) q n)
       t =
           below-use (showsIn s l (signedFor s l) q) (length (onSide l q))
-          (each-use theVertices (λ q. every (showsIn s l (signedFor s l) q) (below (length (onSide l q)))) (imp-use (hasPlus l) _ (all-patterns (λ s l. showingAll s l (signedFor s l)) showingAll-ok s l) p) q) n h
+          (each-use theVertices (showsOn s l (signedFor s l))
+          (imp-use (hasPlus l) _ (all-patterns (λ s l. showingAll s l (signedFor s l)) showingAll-ok s l) p) q) n h
 
   is-proper : T (proper l (signedFor s l))
   is-proper = all-patterns (λ s l. proper l (signedFor s l)) proper-ok s l
@@ -230,7 +245,8 @@ module _ (s : Bool) (l : Vertex → Label) where
     unfolding proper
     proper-at =
         each-use theVertices (properAt (signedFor s l) r)
-        (below-use (λ r. each theVertices (properAt (signedFor s l) r)) (length (signedFor s l)) (and-r (hasPlus l || eqb (length (signedFor s l)) 0) _ is-proper) r h) v
+        (below-use (λ r. each theVertices (properAt (signedFor s l) r)) (length (signedFor s l))
+        (and-r (hasPlus l || eqb (length (signedFor s l)) 0) _ is-proper) r h) v
 
     pub ordered : rank (tip false (rowAt (rowIn (signedFor s l) r) v)) ≤ rank (tip true (rowAt (rowIn (signedFor s l) r) v))
     unfolding properAt ascends

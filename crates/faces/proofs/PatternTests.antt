@@ -1,9 +1,9 @@
 -- What every face of every row of a pattern is like, as tests that are computed over all 81 patterns and both windings. Assumes nothing.
 use Prim.Native.Nat.{ℕ}
 use mathlib.Core.Bool.{Bool, true, false, not, _||_}
-use mathlib.Core.List.{List, [], _∷_, _++_, map}
-use lib.Dec.{T, eqb, leb}
-use lib.ListN.{length, getD}
+use mathlib.Core.List.{List, [], _∷_}
+use lib.Dec.{eqb, leb}
+use lib.ListN.{length}
 use Rattle.basics.specs.Choice.{if_then_else_}
 use Rattle.basics.specs.Lists.{from, below}
 use Rattle.basics.proofs.Test.{_&_, imp, every, any}
@@ -13,8 +13,8 @@ use Rattle.moving.specs.declared.Label.{Label}
 use Rattle.moving.specs.Label.{isPlus, isMinus, isZero}
 use Rattle.moving.proofs.Labels.{theLabels}
 use Rattle.stencil.specs.Tetrahedron.{Vertex, v0, v1, v2, v3}
-use Rattle.stencil.specs.Row.{Row, row, Face, face, Third, rowAt, faceAt, faceOf, turned, exchanged}
-use Rattle.stencil.specs.Stencil.{Entry, between, rank, point, cut, choose, stencilOf, patternOf, nth, rowsOf, rowsFor}
+use Rattle.stencil.specs.Row.{Row, Face, face, Third, rowAt, faceAt, faceOf, turned, exchanged}
+use Rattle.stencil.specs.Stencil.{Entry, between, rank, cut, choose, stencilOf, patternOf, rowsOf, rowsFor}
 use Rattle.stencil.proofs.Corners.{theVertices, theThirds}
 use Rattle.stencil.proofs.Sign.{newcomer, order, evenFirst, even, signed}
 use Rattle.faces.proofs.Pattern.{signedFor, rowIn, tip, side, base, onTriangle, onSide, shown, lift}
@@ -51,8 +51,11 @@ unfoldable pub coversSide : Face (Entry Vertex) → Vertex → Bool
 coversSide f q = each theThirds (λ t. covers f (side q t))
 
 -- a face's lattice points all have the label zero; a side has a plus
+unfoldable pub zeroPoint : (Vertex → Label) → Entry Vertex → Bool
+zeroPoint l x = imp (same theVertices (tip false x) (tip true x)) (isZero (l (tip false x)))
+
 unfoldable pub zeros : (Vertex → Label) → Face (Entry Vertex) → Bool
-zeros l f = each theThirds (λ t. imp (same theVertices (tip false (faceAt f t)) (tip true (faceAt f t))) (isZero (l (tip false (faceAt f t)))))
+zeros l f = each theThirds (λ t. zeroPoint l (faceAt f t))
 
 unfoldable pub plusOn : (Vertex → Label) → Vertex → Bool
 plusOn l q = any (λ t. isPlus (l (side q t))) (theThirds .all)
@@ -84,8 +87,11 @@ fits s l f rows others =
     let outside = alone others & any (beside s l f) (theVertices .all) in
     if coversAll f then inside else outside
 
+unfoldable pub fitsAt : Bool → (Vertex → Label) → Rows → ℕ → Vertex → Bool
+fitsAt s l rows r v = fits s l (faceOf (rowIn rows r) v) rows (others rows r (faceOf (rowIn rows r) v))
+
 unfoldable pub fitting : Bool → (Vertex → Label) → Rows → Bool
-fitting s l rows = every (λ r. each theVertices (λ v. fits s l (faceOf (rowIn rows r) v) rows (others rows r (faceOf (rowIn rows r) v)))) (below (length rows))
+fitting s l rows = every (λ r. each theVertices (fitsAt s l rows r)) (below (length rows))
 
 -- 2: with a plus among the labels, each face that three labels put on a side is a face of a row, and of no other
 unfoldable pub shows : Bool → (Vertex → Label) → Rows → Vertex → ℕ → ℕ → Vertex → Bool
@@ -94,8 +100,11 @@ shows s l rows q n r v = alone (others rows r (faceOf (rowIn rows r) v)) & showi
 unfoldable pub showsIn : Bool → (Vertex → Label) → Rows → Vertex → ℕ → Bool
 showsIn s l rows q n = any (λ r. any (shows s l rows q n r) (theVertices .all)) (below (length rows))
 
+unfoldable pub showsOn : Bool → (Vertex → Label) → Rows → Vertex → Bool
+showsOn s l rows q = every (showsIn s l rows q) (below (length (onSide l q)))
+
 unfoldable pub showingAll : Bool → (Vertex → Label) → Rows → Bool
-showingAll s l rows = imp (hasPlus l) (each theVertices (λ q. every (showsIn s l rows q) (below (length (onSide l q)))))
+showingAll s l rows = imp (hasPlus l) (each theVertices (showsOn s l rows))
 
 -- 3: with no plus there are no rows; the ends of an entry ascend; the entries of a row differ
 unfoldable pub differing : Rows → ℕ → Vertex → Vertex → Bool
@@ -127,11 +136,11 @@ abbrev pub AllPatterns : (Bool → (Vertex → Label) → Bool) → Type 0
 AllPatterns f = Tested (theBools ⊗ theQuads) (λ c. f (c .0) (labels (c .1)))
 
 pub fitting-ok : AllPatterns (λ s l. fitting s l (signedFor s l))
-unfolding _&_ fitting fits within facing beside showing zeros plusOn coversSide coversAll covers alone others holds sameFace sameEntry keep from signedFor rowIn shown onSide onTriangle base rowsFor rowsOf stencilOf patternOf choose cut newcomer order evenFirst even signed isPlus isMinus isZero
+unfolding _&_ fitting fitsAt fits within facing beside showing zeros zeroPoint plusOn coversSide coversAll covers alone others holds sameFace sameEntry keep from signedFor rowIn shown onSide onTriangle base rowsFor rowsOf stencilOf patternOf choose cut newcomer order evenFirst even signed isPlus isMinus isZero
 fitting-ok = record { passed = tt }
 
 pub showingAll-ok : AllPatterns (λ s l. showingAll s l (signedFor s l))
-unfolding _&_ showingAll showsIn shows showing hasPlus alone others holds sameFace sameEntry keep from signedFor rowIn shown onSide onTriangle base rowsFor rowsOf stencilOf patternOf choose cut newcomer order evenFirst even signed isPlus isMinus isZero
+unfolding _&_ showingAll showsOn showsIn shows showing hasPlus alone others holds sameFace sameEntry keep from signedFor rowIn shown onSide onTriangle base rowsFor rowsOf stencilOf patternOf choose cut newcomer order evenFirst even signed isPlus isMinus isZero
 showingAll-ok = record { passed = tt }
 
 pub proper-ok : AllPatterns (λ s l. proper l (signedFor s l))

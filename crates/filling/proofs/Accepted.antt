@@ -3,63 +3,28 @@ use Prim.Native.Nat.{ℕ, _*_, _/_, _%_, _≤_, _<_}
 use native.Mathlib.Omega.{arith}
 use mathlib.Core.Path.{_≡_, refl, _∙_}
 use mathlib.Core.Logic.{_⊎_, inl, inr}
-use mathlib.Core.Bool.{Bool, true, false, not, _&&_}
+use mathlib.Core.Bool.{Bool, true, false, not}
 use mathlib.Core.List.{List}
 use lib.ListN.{length}
-use lib.Dec.{T, ltb, leb, eqb, leb→le, le→leb, T-not}
+use lib.Dec.{T, ltb, eqb, T-not}
 use borrow.Author.Tests.{ltb-false, ltb-true, le-ltb, eqb-true, eq-eqb, not-false}
 use Rattle.basics.specs.Choice.{if_then_else_}
-use Rattle.basics.proofs.Test.{&&-l, &&-r, &&-i, T-true, true-T, eqb-of, lt-or}
+use Rattle.basics.proofs.Test.{eqb-of, lt-or}
 use Rattle.basics.proofs.Search.{lowest-passes, lowest-none, none-lowest}
-use Rattle.lattice.specs.declared.Sizes.{Sizes}
-use Rattle.lattice.specs.Axis.{Axis, along-x, along-y, along-z}
-use Rattle.lattice.specs.Counts.{size, largest, sizesFit, Sized, points}
-use Rattle.lattice.proofs.Axes.{everywhere-use, everywhere-i}
-use Rattle.moving.specs.Block.{Block, cutByte}
-use Rattle.filling.specs.Mesh.{table}
+use Rattle.lattice.specs.Counts.{sizesFit, points}
+use Rattle.lattice.proofs.Sized.{fits-sized, sized-fits}
+use Rattle.moving.specs.Block.{Block, cutByte, Tabled}
 use Rattle.filling.specs.Check.{rimFault, crosses, cutFault, firstRim, firstCut}
 use Rattle.filling.specs.Fill.{Outcome, refused, written, fill}
 
 -- a block that filling accepts
 pub record Accepted (b : Block) : Type 0 where
-  pub sized : Sized (b .sizes)
-  pub samples-long : length (b .samples) ≡ points (b .sizes)
-  pub cuts-long : length (b .cuts) ≡ 7 * points (b .sizes)
+  pub tabled : Tabled b
   pub rim-fine : (p : ℕ) → p < points (b .sizes) → rimFault b p ≡ false
   pub cuts-fine : (o : ℕ) → o < 7 * points (b .sizes) → cutFault b o ≡ 0
 
--- sizes that fit, as a test and as a fact
-fits : Sizes → Axis → Bool
-fits s a = leb 1 (size s a) && leb (size s a) largest
-
-pub fit-sized : (s : Sizes) → sizesFit s ≡ true → Sized s
-unfolding sizesFit fits
-fit-sized s e =
-    record {
-      x-low = both along-x .0;
-      x-high = both along-x .1;
-      y-low = both along-y .0;
-      y-high = both along-y .1;
-      z-low = both along-z .0;
-      z-high = both along-z .1;
-    }
-  where
-    both : (a : Axis) → (1 ≤ size s a) × (size s a ≤ largest)
-    both a =
-        let t = everywhere-use (fits s) (true-T (sizesFit s) e) a in
-        (leb→le _ _ (&&-l (leb 1 (size s a)) (leb (size s a) largest) t), leb→le _ _ (&&-r (leb 1 (size s a)) (leb (size s a) largest) t))
-
-pub sized-fit : (s : Sizes) → Sized s → sizesFit s ≡ true
-unfolding sizesFit fits
-sized-fit s z = T-true (sizesFit s) (everywhere-i (fits s) both)
-  where
-    one : (n : ℕ) → 1 ≤ n → n ≤ largest → T (leb 1 n && leb n largest)
-    one n l h = &&-i (leb 1 n) (leb n largest) (le→leb 1 n l) (le→leb n largest h)
-
-    both : (a : Axis) → T (fits s a)
-    both along-x = one (s .nx) (z .x-low) (z .x-high)
-    both along-y = one (s .ny) (z .y-low) (z .y-high)
-    both along-z = one (s .nz) (z .z-low) (z .z-high)
+pub accepted-tabled : (b : Block) → Accepted b → Tabled b
+accepted-tabled b h = h .tabled
 
 -- a cut byte's fault is 0, 6 or 7
 fault-le : (b : Block) (o : ℕ) → cutFault b o ≤ 7
@@ -100,9 +65,11 @@ module _ (b : Block) (state rows : List ℕ) where
       let s6 = passed (ltb (firstCut b) (7 * points (b .sizes))) (cutFault b (firstCut b)) (firstCut b) _ m not-cut (s5 .2) in
       record {
         accepted = record {
-          sized = fit-sized (b .sizes) (not-false _ (s1 .0));
-          samples-long = eqb-true _ _ (not-false _ (s2 .0));
-          cuts-long = eqb-true _ _ (not-false _ (s3 .0));
+          tabled = record {
+            sized = fits-sized (b .sizes) (not-false _ (s1 .0));
+            samples-long = eqb-true _ _ (not-false _ (s2 .0));
+            cuts-long = eqb-true _ _ (not-false _ (s3 .0));
+          };
           rim-fine = lowest-none (rimFault b) (points (b .sizes)) (ltb-false _ _ (s5 .0));
           cuts-fine = λ o h. eqb-true _ _ (not-false _ (lowest-none (faulty b) (7 * points (b .sizes)) (ltb-false _ _ (s6 .0)) o h));
         };
@@ -126,9 +93,9 @@ module _ (b : Block) (state rows : List ℕ) where
   unfolding fill faulty
   accepted-fills h l =
       simp (
-        sized-fit (b .sizes) (h .sized),
-        eq-eqb _ _ (h .samples-long),
-        eq-eqb _ _ (h .cuts-long),
+        sized-fits (b .sizes) (h .tabled .sized),
+        eq-eqb _ _ (h .tabled .samples-long),
+        eq-eqb _ _ (h .tabled .cuts-long),
         eq-eqb _ _ l,
         le-ltb (firstRim b) (points (b .sizes)) (omega (arith, none-lowest (rimFault b) (points (b .sizes)) (h .rim-fine))),
         le-ltb (firstCut b) (7 * points (b .sizes)) (omega (arith, none-lowest (faulty b) (7 * points (b .sizes)) fine)),

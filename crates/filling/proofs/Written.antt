@@ -5,37 +5,29 @@ use native.Mathlib.Omega.{arith}
 use mathlib.Core.Path.{_≡_, refl, sym, _∙_}
 use mathlib.Core.Logic.{inl}
 use mathlib.Core.Bool.{Bool, true, false, not}
-use mathlib.Core.List.{List, [], _∷_, _++_, map}
+use mathlib.Core.List.{List, [], _∷_, _++_}
 use lib.ListN.{length, getD, drop}
 use lib.Dec.{leb, eqb}
 use borrow.Author.Tests.{le-leb, lt-leb}
 use Rattle.basics.specs.Choice.{if_then_else_}
-use Rattle.basics.specs.Lists.{gather, below, count}
+use Rattle.basics.specs.Lists.{gather, count}
 use Rattle.basics.proofs.Mapped.{read-all}
 use Rattle.lattice.specs.Counts.{points}
 use Rattle.moving.specs.Block.{Block}
 use Rattle.moving.specs.Moving.{stateOf}
 use Rattle.moving.proofs.Moved.{codes-length}
 use Rattle.stencil.specs.Row.{Row, row}
-use Rattle.filling.specs.Mesh.{meshOf, ids, table}
-use Rattle.filling.specs.Demand.{nthRow}
+use Rattle.filling.specs.Mesh.{meshOf, table}
+use Rattle.filling.specs.Demand.{nthRow, rowRead, rowsRead}
 use Rattle.filling.specs.Fill.{movedCount, overwritten, written, fill}
 use Rattle.filling.proofs.Accepted.{Accepted, passed-all, accepted-fills}
-
--- the i-th row, read from a row table
-abbrev pub rowIn : List ℕ → ℕ → Row ℕ
-rowIn t i = row (getD t (4 * i) 0) (getD t (4 * i + 1) 0) (getD t (4 * i + 2) 0) (getD t (4 * i + 3) 0)
-
--- the first n of them
-unfoldable pub rowsRead : List ℕ → ℕ → List (Row ℕ)
-rowsRead t n = map (rowIn t) (below n)
 
 pub table-length : (rows : List (Row ℕ)) → length (table rows) ≡ 4 * length rows
 unfolding gather
 table-length [] = refl
 table-length (row a b c d ∷ rows) = omega (arith, table-length rows)
 
-pub table-row : (rows : List (Row ℕ)) (more : List ℕ) (i : ℕ) → i < length rows → rowIn (table rows ++ more) i ≡ nthRow rows i
+pub table-row : (rows : List (Row ℕ)) (more : List ℕ) (i : ℕ) → i < length rows → rowRead (table rows ++ more) i ≡ nthRow rows i
 unfolding gather
 table-row [] more i h = absurd (omega arith)
 table-row (row a b c d ∷ rows) more zero h = refl
@@ -47,7 +39,7 @@ table-row (row a b c d ∷ rows) more (suc i) h = later ∙ table-row rows more 
     first : 4 * suc i ≡ suc (suc (suc (suc (4 * i))))
     first = omega arith
 
-    later : rowIn (a ∷ b ∷ c ∷ d ∷ (table rows ++ more)) (suc i) ≡ rowIn (table rows ++ more) i
+    later : rowRead (a ∷ b ∷ c ∷ d ∷ (table rows ++ more)) (suc i) ≡ rowRead (table rows ++ more) i
     later = rw (on 1, on 2, on 3, first) refl
 
 module _ (b : Block) (state rows : List ℕ) where
@@ -88,7 +80,7 @@ module _ (b : Block) (state rows : List ℕ) where
       go false e = absurd (omega (arith, e))
 
   pub row-written : fill b state rows .answer .number ≡ 0
-      → (i : ℕ) → i < length (meshOf b) → rowIn (fill b state rows .rows) i ≡ nthRow (meshOf b) i
+      → (i : ℕ) → i < length (meshOf b) → rowRead (fill b state rows .rows) i ≡ nthRow (meshOf b) i
   row-written e i h = rw (rows-written e) (table-row (meshOf b) (drop (4 * length (meshOf b)) rows) i h)
 
   -- so the rows, read from the tables that filling leaves, are those of the definition
@@ -96,5 +88,5 @@ module _ (b : Block) (state rows : List ℕ) where
   unfolding rowsRead
   rows-read e =
       let p = passed-all b state rows 0 (inl refl) e in
-      read-all (rowIn (fill b state rows .rows)) (meshOf b) (fill b state rows .answer .rows) (row 0 0 0 0)
+      read-all (rowRead (fill b state rows .rows)) (meshOf b) (fill b state rows .answer .rows) (row 0 0 0 0)
       (sym (rows-counted (p .accepted) (p .state-long))) (row-written e)

@@ -1,23 +1,34 @@
 -- Demand 3: "of all rows together: each face belongs to exactly two rows, which wind it opposite ways, or to exactly one, and then its
 -- three corners lie on the skin; and each row's volume, with points moved, is above zero."
-use Prim.Native.Nat.{ℕ, _<_, _≤_}
+use Prim.Native.Nat.{ℕ, _+_, _*_, _<_}
 use mathlib.Core.Path.{_≡_}
 use mathlib.Core.Logic.{_⊎_}
-use mathlib.Core.List.{List}
+use mathlib.Core.List.{List, map}
 use lib.ListN.{length, getD}
 use lib.IntN.{ℤ, pos}
 use lib.Signed.{_<ℤ_}
+use Rattle.basics.specs.Lists.{below}
+use Rattle.lattice.specs.declared.Near.the-variants.{At}
 use Rattle.lattice.specs.Counts.{points}
-use Rattle.moving.specs.Block.{Block, sample}
+use Rattle.lattice.specs.Edge.{neighbour, byteAt}
+use Rattle.moving.specs.Block.{Block, sample, cutByte}
 use Rattle.moving.specs.Moving.{stateOf}
 use Rattle.stencil.specs.Tetrahedron.{Vertex}
 use Rattle.stencil.specs.Row.{Row, row, Face, Third, faceOf, faceAt, Opposite, Holds}
+use Rattle.stencil.specs.Id.{cutId}
 use Rattle.geometry.specs.Place.{Place}
 use Rattle.filling.specs.Mesh.{rowVolume}
 
 -- the i-th row of a list
 abbrev pub nthRow : List (Row ℕ) → ℕ → Row ℕ
 nthRow rows i = getD rows i (row 0 0 0 0)
+
+-- the i-th row as a row table holds it, and the first n rows: "A row is four 32-bit ids"
+abbrev pub rowRead : List ℕ → ℕ → Row ℕ
+rowRead table i = row (getD table (4 * i) 0) (getD table (4 * i + 1) 0) (getD table (4 * i + 2) 0) (getD table (4 * i + 3) 0)
+
+unfoldable pub rowsRead : List ℕ → ℕ → List (Row ℕ)
+rowsRead table n = map (rowRead table) (below n)
 
 -- "faces with the same three ids, in any order, are the same face, and it belongs to each row that holds all three": the face of the
 -- i-th row that leaves out its corner v
@@ -38,6 +49,9 @@ pub record Conforms (rows : List (Row ℕ)) (place : ℕ → Place) (Skin : ℕ 
 
 -- the skin (document 01's word for the isosurface): a cut point, a point that the rules move in this block, or a point whose sample is zero
 pub data OnSkin (b : Block) (id : ℕ) : Type 0 where
-  a-cut : points (b .sizes) ≤ id → OnSkin b id
+  -- "A cut point is the cut of an edge": the edge from p in direction d exists, its byte is not zero, and this is its id
+  a-cut : (p d q : ℕ) → p < points (b .sizes) → d < 7 → neighbour (b .sizes) p (d + 1) ≡ At q
+      → (cutByte b (byteAt p d) ≡ 0 → ⊥) → id ≡ cutId (b .sizes) p d → OnSkin b id
+  -- "a moved point is one that the rules above move in this block, and is not read off the state table"
   a-moved-point : id < points (b .sizes) → (getD (stateOf b) id 0 ≡ 0 → ⊥) → OnSkin b id
   a-zero-sample : id < points (b .sizes) → sample b id ≡ pos 0 → OnSkin b id

@@ -2,7 +2,7 @@
 use mathlib.Core.Path.{_≡_, refl, sym, _∙_, ap, subst}
 use Prim.Native.Nat.{ℕ, zero, suc}
 use native.Mathlib.Omega.{arith}
-use lib.IntN.{ℤ, pos, negsuc, _+ℤ_, _-ℤ_, _*ℤ_, negℤ}
+use lib.IntN.{ℤ, pos, negsuc, _+ℤ_, _*ℤ_, negℤ}
 use Rattle.basics.proofs.Integer.{above, nat, int, _⊕_, _⊖_, _⊗_, ring, sums}
 use Rattle.lattice.specs.Axis.{Axis}
 use Rattle.geometry.specs.Place.{Place}

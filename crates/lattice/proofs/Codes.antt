@@ -1,15 +1,16 @@
 -- The fourteen codes: what is computed of all of them, and each rule that follows. Assumes nothing.
-use Prim.Native.Nat.{ℕ, suc, _+_, _*_, _-_, _/_, _%_, _≤_, _<_}
+use Prim.Native.Nat.{ℕ, _+_, _-_, _%_, _≤_, _<_}
 use native.Mathlib.Omega.{arith}
-use mathlib.Core.Path.{_≡_, refl, sym, ap, subst, _∙_}
+use mathlib.Core.Path.{_≡_, refl}
 use mathlib.Core.Logic.{_⊎_, inl, inr}
-use mathlib.Core.Bool.{Bool, true, false, not, _||_, Bool·beq}
+use mathlib.Core.Bool.{Bool, not, _||_, Bool·beq}
 use lib.Dec.{T, eqb, eqb→eq, leb, leb→le, ltb}
+use borrow.Author.Tests.{le-leb}
 use Rattle.basics.specs.Lists.{from}
 use Rattle.basics.proofs.Test.{_&_, and-l, and-r, or-cases, imp, imp-use, every, every-use, from-member, beq-use, eqb-of}
 use Rattle.basics.proofs.Finite.{each, each-use, each-i}
 use Rattle.lattice.specs.Axis.{Axis}
-use Rattle.lattice.specs.Direction.{Step, directions, direction, long, Code, isStart, directionOf, step, opposite}
+use Rattle.lattice.specs.Direction.{directions, direction, long, Code, isStart, directionOf, step, opposite}
 use Rattle.lattice.proofs.Axes.{theAxes}
 
 -- a test of every code
@@ -127,3 +128,8 @@ codes-apart c e h g way =
     eqb→eq c e (imp-use (each theAxes (sameWay c e)) (eqb c e)
     (eachCode-use (λ e. imp (each theAxes (sameWay c e)) (eqb c e)) (eachCode-use (λ c. eachCode (λ e. imp (each theAxes (sameWay c e)) (eqb c e))) apart-ok c h) e g)
     (each-i theAxes (sameWay c e) (λ a. eqb-of _ _ (way a))))
+
+-- the code of an edge at its start
+pub start-step : (d : ℕ) → d < 7 → (a : Axis) → step (d + 1) a ≡ direction d a
+unfolding step isStart directionOf
+start-step d h a = let e : (d + 1 - 1) % 7 ≡ d = omega arith in rw (le-leb (d + 1) 7 (omega arith), e) refl

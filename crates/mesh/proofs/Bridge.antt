@@ -9,7 +9,7 @@ use mathlib.Core.Bool.{Bool, true, false, not}
 use lib.IntN.{ℤ, pos, _+ℤ_, _*ℤ_}
 use lib.ListN.{getD}
 use lib.Dec.{T}
-use borrow.Author.Tests.{eq-eqb, lt-ltb, le-ltb, le-leb}
+use borrow.Author.Tests.{eq-eqb, lt-ltb, le-ltb}
 use Rattle.basics.specs.Choice.{if_then_else_}
 use Rattle.basics.proofs.Finite.{each, each-use}
 use Rattle.basics.proofs.Test.{_&_, and-l, and-r, imp, imp-use, &&-i, T-true, false-F, lt-or}
@@ -20,10 +20,11 @@ use Rattle.lattice.specs.declared.Near.the-variants.{At}
 use Rattle.lattice.specs.Axis.{Axis}
 use Rattle.lattice.specs.Counts.{points}
 use Rattle.lattice.specs.Point.{doubled, Inside, number}
-use Rattle.lattice.specs.Direction.{isStart, directionOf, direction, long, step}
+use Rattle.lattice.specs.Direction.{directionOf, direction, long, step}
 use Rattle.lattice.specs.Edge.{neighbour, byteAt}
 use Rattle.lattice.specs.Rim.{rimAt, rim}
 use Rattle.lattice.proofs.Number.{number-lt, kind-number, index-number}
+use Rattle.lattice.proofs.Codes.{start-step}
 use Rattle.lattice.proofs.Edge.{leads-near, near-number}
 use Rattle.moving.specs.declared.Label.{Label}
 use Rattle.moving.specs.Block.{Block, cutByte}
@@ -37,7 +38,7 @@ use Rattle.geometry.specs.Place.{Place, latticePlace, signed, cutPlace, pointPl
 use Rattle.filling.specs.Check.{rimFault, crossesTo, crosses, cutFault}
 use Rattle.filling.proofs.Accepted.{Accepted}
 use Rattle.volumes.proofs.Sound.{reach, Moved, Sound}
-use Rattle.mesh.proofs.Halves.{NoRim}
+use Rattle.faces.proofs.Signed.{NoRim}
 use Rattle.mesh.proofs.Warp.{Bytes, pointOf, rest-number, moved-within, still-stands}
 
 -- after moving: the label of a point, and the place of an id
@@ -121,11 +122,6 @@ module _ (b : Block) (k : Kind) (i : Axis → ℕ) (inside : Inside (b .sizes) k
       way : (cutId (b .sizes) (pointOf b k i) d - points (b .sizes)) % 7 ≡ d
       way = omega arith
 
--- the code of an edge at its start
-start-step : (d : ℕ) → d < 7 → (a : Axis) → step (d + 1) a ≡ direction d a
-unfolding step isStart directionOf
-start-step d h a = let e : (d + 1 - 1) % 7 ≡ d = omega arith in rw (le-leb (d + 1) 7 (omega arith), e) refl
-
 -- where an edge of an accepted block crosses the skin there is a byte
 some-byte : (b : Block) → Accepted b → (p d : ℕ) → p < points (b .sizes) → d < 7 → T (crosses b p d) → 0 < cutByte b (byteAt p d)
 unfolding cutFault
@@ -153,30 +149,35 @@ module _ (b : Block) (h : Accepted b) where
   unchanged : (p : ℕ) → T (not (isZero (finalLabel b p))) → finalLabel b p ≡ labelBefore b p
   unchanged p t = label-still b (stateOf b) p (nonzero-still b (stateOf b) p t)
 
-  edge-byte : (k l : Kind) (i j : Axis → ℕ) (d : ℕ) → Inside (b .sizes) k i → Inside (b .sizes) l j → d < 7
-      → ((a : Axis) → doubled l (j a) + direction d a .down ≡ doubled k (i a) + direction d a .up)
-      → T (opposed (finalLabel b (pointOf b k i)) (finalLabel b (pointOf b l j)))
-      → 0 < cutByte b (byteAt (pointOf b k i) d)
+  -- an edge whose ends are opposed after moving has a byte
+  pub edge-byte : (p d q : ℕ) → p < points (b .sizes) → d < 7 → neighbour (b .sizes) p (d + 1) ≡ At q
+      → T (opposed (finalLabel b p) (finalLabel b q)) → 0 < cutByte b (byteAt p d)
   unfolding crossesTo
-  edge-byte k l i j d x y u e t = some-byte b h (pointOf b k i) d (number-lt (b .sizes) k i x) u (rw to before)
+  edge-byte p d q l u to t = some-byte b h p d l u (rw to before)
     where
-      both : T (not (isZero (finalLabel b (pointOf b k i)))) × T (not (isZero (finalLabel b (pointOf b l j))))
-      both = opposed-solid (finalLabel b (pointOf b k i)) (finalLabel b (pointOf b l j)) t
+      both : T (not (isZero (finalLabel b p))) × T (not (isZero (finalLabel b q)))
+      both = opposed-solid (finalLabel b p) (finalLabel b q) t
 
-      before : T (opposed (labelBefore b (pointOf b k i)) (labelBefore b (pointOf b l j)))
-      before = rw (unchanged (pointOf b k i) (both .0), unchanged (pointOf b l j) (both .1)) at t
+      before : T (opposed (labelBefore b p) (labelBefore b q))
+      before = rw (unchanged p (both .0), unchanged q (both .1)) at t
 
-      to : neighbour (b .sizes) (pointOf b k i) (d + 1) ≡ At (pointOf b l j)
-      to =
-          near-number (b .sizes) k i x (d + 1)
-          ∙ leads-near (b .sizes) k i (d + 1) l j x y (record { low = omega arith; high = omega arith }) (λ a. rw (start-step d u a) (e a))
+  -- an edge by the kinds and indices of its ends
+  edge-near : (k l : Kind) (i j : Axis → ℕ) (d : ℕ) → Inside (b .sizes) k i → Inside (b .sizes) l j → d < 7
+      → ((a : Axis) → doubled l (j a) + direction d a .down ≡ doubled k (i a) + direction d a .up)
+      → neighbour (b .sizes) (pointOf b k i) (d + 1) ≡ At (pointOf b l j)
+  edge-near k l i j d x y u e =
+      near-number (b .sizes) k i x (d + 1)
+      ∙ leads-near (b .sizes) k i (d + 1) l j x y (record { low = omega arith; high = omega arith }) (λ a. rw (start-step d u a) (e a))
 
   pub sound : Bytes b → Sound (b .sizes) (finalLabel b) (cutByte b) (finalPlace b)
   sound bytes =
       record {
         moves = λ k i x. moves b k i x bytes;
         still = λ k i x t. standing b k i x (nonzero-still b (stateOf b) (pointOf b k i) t);
-        bytes = λ k l i j d x y u e t. (edge-byte k l i j d x y u e t, bytes (byteAt (pointOf b k i) d));
+        bytes = λ k l i j d x y u e t. (
+          edge-byte (pointOf b k i) d (pointOf b l j) (number-lt (b .sizes) k i x) u (edge-near k l i j d x y u e) t,
+          bytes (byteAt (pointOf b k i) d),
+        );
         cut-places = λ k i d x u. cut-place b k i x d u;
       }
 

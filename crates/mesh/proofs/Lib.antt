@@ -1,5 +1,5 @@
-pub mod Halves
 pub mod Warp
 pub mod Bridge
 pub mod Rows
+pub mod MeshIds
 pub mod Demand3

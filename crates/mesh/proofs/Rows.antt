@@ -18,11 +18,12 @@ use Rattle.stencil.specs.Stencil.{Entry, rowsFor, point}
 use Rattle.stencil.specs.Id.{idOf}
 use Rattle.stencil.proofs.Sign.{signed, winds}
 use Rattle.stencil.proofs.Valid.{Valid}
+use Rattle.stencil.proofs.Listed.{listed-valid}
 use Rattle.filling.specs.Mesh.{rowVolume, labelsIn, rowsIn, rowsWith, meshOf}
 use Rattle.filling.specs.Demand.{nthRow}
 use Rattle.volumes.proofs.Sound.{Sound}
 use Rattle.volumes.proofs.Volumes.{oriented-rows, positive}
-use Rattle.mesh.proofs.Halves.{signedIn, signedRows, listed-valid}
+use Rattle.faces.proofs.Signed.{signedIn, signedRows}
 use Rattle.mesh.proofs.Bridge.{finalLabel, finalPlace}
 
 module _ (b : Block) (s : Sound (b .sizes) (finalLabel b) (cutByte b) (finalPlace b)) where

@@ -1,2 +1,4 @@
+pub mod Limits
+pub mod OneCube
 pub mod Labels
 pub mod Moved

@@ -1,19 +1,15 @@
 -- The volume identity: a row's six-volume is a positive share of the six-volume of the tetrahedron of its corners, in the order in which
 -- they come. Each entry brings in one new corner and hangs on an earlier one, and along an earlier corner the triple product vanishes.
 -- Assumes nothing.
-use Prim.Native.Nat.{ℕ, zero, suc, _+_, _*_, _<_}
-use mathlib.Core.Path.{_≡_, refl, sym, _∙_, ap, subst}
-use mathlib.Core.Logic.{_⊎_, inl, inr}
-use mathlib.Core.Bool.{Bool, true, false}
+use Prim.Native.Nat.{ℕ, _+_, _*_, _<_}
+use mathlib.Core.Path.{_≡_, sym, _∙_, ap}
 use mathlib.Core.List.{List, [], _∷_}
 use native.Mathlib.Omega.{arith}
 use native.Mathlib.Nat.{mul-pos}
-use lib.Dec.{T}
-use lib.IntN.{ℤ, pos, _+ℤ_, _-ℤ_, _*ℤ_, negℤ}
+use lib.IntN.{ℤ, pos, _+ℤ_, _-ℤ_, _*ℤ_}
 use lib.Signed.{_<ℤ_}
 use Rattle.basics.proofs.Test.{Member, here, there}
-use Rattle.basics.proofs.Integer.{nat, int, _⊕_, _⊖_, _⊗_, ring, *ℤ-neg, between-positive}
-use Rattle.lattice.specs.Axis.{Axis}
+use Rattle.basics.proofs.Integer.{nat, int, _⊕_, _⊖_, _⊗_, ring, between-positive}
 use Rattle.stencil.specs.Tetrahedron.{Vertex}
 use Rattle.geometry.specs.Place.{Place}
 use Rattle.geometry.specs.Volume.{difference, triple, sixVolume}
@@ -63,31 +59,34 @@ module _ (P : Vertex → Place) (w : Vertex) where
         linear (difference (P w) E) (from o) (from y) (mix .m) (mix .n) 256
         (λ a. seen (P o a) (P y a) (E a) (P w a) (mix .m) (mix .n) (mix .whole) (mix .is a))
 
-    hung : {before : List Vertex} {y o : Vertex} {E : Place} → ((v : Vertex) → Member v before → g (from v) ≡ pos 0) → Member o (y ∷ before)
-        → Mix (P o) (P y) E → Share 256 (g (difference (P w) E)) (g (from y))
+    hung : {before : List Vertex} {y o : Vertex} {E : Place} → ((v : Vertex) → Member v before → g (from v) ≡ pos 0)
+        → Member o (y ∷ before) → Mix (P o) (P y) E → Share 256 (g (difference (P w) E)) (g (from y))
     hung {y = y} vanishes here mix =
+        let x = int (g (from y)) in
         record {
           parts = mix .m + mix .n;
           some = omega (arith, mix .m-some);
-          is = split mix ∙ ring (nat (mix .m) ⊗ int (g (from y)) ⊕ nat (mix .n) ⊗ int (g (from y))) (nat (mix .m + mix .n) ⊗ int (g (from y))) (omega arith);
+          is = split mix ∙ ring (nat (mix .m) ⊗ x ⊕ nat (mix .n) ⊗ x) (nat (mix .m + mix .n) ⊗ x) (omega arith);
         }
     hung {y = y} {o = o} vanishes (there p) mix =
+        let x = int (g (from y)) in
         record {
           parts = mix .n;
           some = mix .n-some;
-          is = split mix ∙ ap (λ (z : ℤ). pos (mix .m) *ℤ z +ℤ pos (mix .n) *ℤ g (from y)) (vanishes o p)
-              ∙ ring (nat (mix .m) ⊗ nat 0 ⊕ nat (mix .n) ⊗ int (g (from y))) (nat (mix .n) ⊗ int (g (from y))) (omega arith);
+          is =
+              split mix ∙ ap (λ (z : ℤ). pos (mix .m) *ℤ z +ℤ pos (mix .n) *ℤ g (from y)) (vanishes o p)
+              ∙ ring (nat (mix .m) ⊗ nat 0 ⊕ nat (mix .n) ⊗ x) (nat (mix .n) ⊗ x) (omega arith);
         }
 
   -- what came before counts for nothing
-  before-first : (v w′ : Place) → (u : Vertex) → Member u (w ∷ []) → triple (from u) v w′ ≡ pos 0
+  before-first : (p q : Place) (u : Vertex) → Member u (w ∷ []) → triple (from u) p q ≡ pos 0
   before-first p q u here = null (λ v. triple v p q) (linear-first p q) (P w)
 
-  before-second : (x : Vertex) (q : Place) → (u : Vertex) → Member u (w ∷ x ∷ []) → triple (from x) (from u) q ≡ pos 0
+  before-second : (x : Vertex) (q : Place) (u : Vertex) → Member u (w ∷ x ∷ []) → triple (from x) (from u) q ≡ pos 0
   before-second x q u here = null (λ v. triple (from x) v q) (linear-second (from x) q) (P w)
   before-second x q u (there here) = twice-first (from x) q
 
-  before-third : (x y : Vertex) → (u : Vertex) → Member u (w ∷ x ∷ y ∷ []) → triple (from x) (from y) (from u) ≡ pos 0
+  before-third : (x y u : Vertex) → Member u (w ∷ x ∷ y ∷ []) → triple (from x) (from y) (from u) ≡ pos 0
   before-third x y u here = null (λ v. triple (from x) (from y) v) (linear-third (from x) (from y)) (P w)
   before-third x y u (there here) = twice-outer (from x) (from y)
   before-third x y u (there (there here)) = twice-last (from x) (from y)

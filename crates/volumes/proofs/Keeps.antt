@@ -1,31 +1,29 @@
 -- A lattice tetrahedron keeps its sign when its corners move within reach, as long as one of them rests: seen from that corner, the
 -- three others wind as the type says. Assumes nothing.
-use Prim.Native.Nat.{ℕ, _+_, _*_}
-use mathlib.Core.Path.{_≡_, refl, sym, _∙_, ap, subst}
+use Prim.Native.Nat.{_*_}
+use mathlib.Core.Path.{_≡_, refl, sym, _∙_, subst}
 use mathlib.Core.Bool.{Bool}
 use native.Mathlib.Omega.{arith}
 use lib.Dec.{T}
 use lib.IntN.{ℤ, pos, _+ℤ_, _-ℤ_, _*ℤ_}
 use lib.Signed.{ltZ, _<ℤ_, ltZ-yes}
 use Rattle.basics.proofs.Test.{every, every-use}
-use Rattle.basics.proofs.Finite.{each, each-use}
 use Rattle.basics.proofs.Integer.{nat, int, _⊕_, _⊖_, _⊗_, ring}
 use Rattle.lattice.specs.Axis.{Axis, along-x, along-y, along-z}
 use Rattle.lattice.specs.Point.{doubled}
 use Rattle.lattice.specs.Direction.{step}
-use Rattle.lattice.proofs.Axes.{theAxes}
 use Rattle.stencil.specs.Tetrahedron.{Tetrahedron, Vertex, kind, corner}
 use Rattle.stencil.specs.Row.{Face, face, Third, t0, t1, t2, turned}
-use Rattle.stencil.proofs.Corners.{theVertices, theQuarters}
 use Rattle.stencil.proofs.Sign.{winds}
 use Rattle.geometry.specs.Place.{Place, latticePlace, signed}
 use Rattle.geometry.specs.Volume.{difference, cross, dot, triple, sixVolume}
 use Rattle.geometry.proofs.Determinant.{turn}
 use Rattle.volumes.proofs.Sound.{Moved}
 use Rattle.volumes.proofs.Box.{Inner, ends, Extreme, shifted, move-inner, in-boxes}
-use Rattle.volumes.proofs.Built.{opposite}
 use Rattle.volumes.proofs.Between.{counted, counted-corner}
-use Rattle.volumes.proofs.Ends.{arm, Vector, vector, flat, normal, along, atCorners, ahead, positiveAt, armsAt, test, all-positive}
+use Rattle.volumes.proofs.Built.{opposite}
+use Rattle.volumes.proofs.Ends.{arm, Vector, vector, flat, normal, along, atCorners, ahead, positiveAt, armsWind}
+use Rattle.volumes.proofs.EndsTest.{type-keeps}
 
 -- what the computed test says
 corners-use : (f : Vector → Bool) (l : Place) → T (atCorners f (flat l)) → (e : Place) → Extreme e → T (f (flat (shifted l e)))
@@ -33,8 +31,8 @@ unfolding atCorners
 corners-use f l t e c =
     every-use (λ k. f (vector (l along-x +ℤ e along-x) (l along-y +ℤ e along-y) (l along-z +ℤ k))) ends
     (every-use (λ j. every (λ k. f (vector (l along-x +ℤ e along-x) (l along-y +ℤ j) (l along-z +ℤ k))) ends) ends
-    (every-use (λ i. every (λ j. every (λ k. f (vector (l along-x +ℤ i) (l along-y +ℤ j) (l along-z +ℤ k))) ends) ends) ends t (c along-x))
-    (c along-y)) (c along-z)
+    (every-use (λ i. every (λ j. every (λ k. f (vector (l along-x +ℤ i) (l along-y +ℤ j) (l along-z +ℤ k))) ends) ends) ends t
+    (c along-x)) (c along-y)) (c along-z)
 
 flat-triple : (u v w : Place) → along (normal (flat u) (flat v)) (flat w) ≡ triple u v w
 unfolding along normal triple dot cross
@@ -49,7 +47,7 @@ ends-use u v w t d e f p q r =
     (corners-use (λ y. ahead (normal (flat (shifted u d)) y) (flat w)) v
     (corners-use (λ x. atCorners (λ y. ahead (normal x y) (flat w)) (flat v)) u t d p) e q) f r))
 
--- the six-volume of a corner and three others
+-- the six-volume of a corner and three others, which may be turned round in a cycle
 abbrev pub seenFrom : (Vertex → Place) → Vertex → Face Vertex → ℤ
 seenFrom P u (face x y z) = sixVolume (P u) (P x) (P y) (P z)
 
@@ -64,7 +62,7 @@ module _ (t : Tetrahedron) (P : Vertex → Place) (moved : (v : Vertex) → Move
   move v a = pos (moved v .t) *ℤ signed (step (moved v .c) a)
 
   module _ (u : Vertex) (rests : (a : Axis) → P u a ≡ latticePlace (kind u) (corner t u) a) where
-    -- the arm to a moved corner, seen from one at rest
+    -- the arm to a moved corner, seen from the one at rest
     arm-moved : (v : Vertex) (a : Axis) → shifted (arm (t .axis) (t .edge) u v) (move v) a ≡ difference (P u) (P v) a
     unfolding arm move latticePlace
     arm-moved v a =
@@ -73,8 +71,8 @@ module _ (t : Tetrahedron) (P : Vertex → Place) (moved : (v : Vertex) → Move
         (omega (arith, counted-corner t v a, counted-corner t u a))
         ∙ (λ j. sym (moved v .is a) j -ℤ sym (rests a) j)
 
-    seen-positive : (f : Face Vertex) → T (armsAt (t .axis) (t .edge) u f) → pos 0 <ℤ seenFrom P u f
-    unfolding armsAt sixVolume move
+    seen-positive : (f : Face Vertex) → T (armsWind (t .axis) (t .edge) u f) → pos 0 <ℤ seenFrom P u f
+    unfolding armsWind sixVolume move
     seen-positive (face x y z) ok =
         subst (λ (p : Vertex → Place). pos 0 <ℤ triple (p x) (p y) (p z)) (λ j v a. arm-moved v a j)
         (in-boxes (arms x) (arms y) (arms z) (move x) (move y) (move z) (inner x) (inner y) (inner z)
@@ -87,8 +85,4 @@ module _ (t : Tetrahedron) (P : Vertex → Place) (moved : (v : Vertex) → Move
         inner v a = move-inner (moved v .c) (moved v .t) a (moved v .code) (moved v .within)
 
     pub keeps : pos 0 <ℤ seenFrom P u (opposite (winds (t .edge)) u)
-    keeps =
-        seen-positive (opposite (winds (t .edge)) u)
-        (each-use theVertices (test (t .axis) (t .edge))
-        (each-use theQuarters (λ e. each theVertices (test (t .axis) e))
-        (each-use theAxes (λ a. each theQuarters (λ e. each theVertices (test a e))) all-positive (t .axis)) (t .edge)) u)
+    keeps = seen-positive (opposite (winds (t .edge)) u) (type-keeps (t .axis) (t .edge) u)

@@ -1,9 +1,12 @@
 pub mod Sound
 pub mod Box
-pub mod Built
-pub mod Ends
 pub mod Between
+pub mod Built
+pub mod BuiltTest
+pub mod Ends
+pub mod EndsTest
 pub mod Keeps
 pub mod Mix
 pub mod Identity
+pub mod Rows
 pub mod Volumes

@@ -2,9 +2,9 @@
 -- to move enters. Definitions only.
 use Prim.Native.Nat.{ℕ, _+_, _≤_, _<_}
 use mathlib.Core.Path.{_≡_}
-use mathlib.Core.Bool.{Bool, not}
+use mathlib.Core.Bool.{not}
 use lib.Dec.{T}
-use lib.IntN.{ℤ, pos, _+ℤ_, _*ℤ_}
+use lib.IntN.{pos, _+ℤ_, _*ℤ_}
 use Rattle.basics.specs.Choice.{if_then_else_}
 use Rattle.lattice.specs.declared.Sizes.{Sizes}
 use Rattle.lattice.specs.declared.Kind.{Kind}

@@ -1,0 +1,48 @@
+-- Document 01, "The bench program": the block of the given case, and changes of one number of it.
+use Prim.Native.Nat.{ℕ, zero, suc, _+_, _*_}
+use mathlib.Core.List.{List, [], _∷_}
+use lib.IntN.{ℤ, pos, negℤ}
+use lib.ListN.{replicate, set}
+use Rattle.lattice.specs.declared.Sizes.{Sizes}
+use Rattle.lattice.specs.Counts.{points}
+use Rattle.moving.specs.Block.{Block, blockOf}
+
+-- a run of the cut table: its offset and its length
+pub data Run : Type 0 where
+  run : ℕ → ℕ → Run
+
+-- a table with n entries from an offset on replaced by t
+unfoldable pub laid : ℕ → ℕ → ℕ → List ℕ → List ℕ
+laid t o zero table = table
+laid t o (suc n) table = laid t (o + 1) n (set table o t)
+
+-- a table with every run replaced by t
+unfoldable pub laidRuns : ℕ → List Run → List ℕ → List ℕ
+laidRuns t [] table = table
+laidRuns t (run o n ∷ rs) table = laidRuns t rs (laid t o n table)
+
+-- "2 by 2 by 2"
+abbrev pub givenSizes : Sizes
+givenSizes = record { nx = 2; ny = 2; nz = 2 }
+
+-- "sample 13 is 5, all others -5"
+unfoldable pub givenSamples : List ℤ
+givenSamples = set (replicate (points givenSizes) (negℤ (pos 5))) 13 (pos 5)
+
+-- "runs (30,1) (71,1) (84,1) (91,7) (192,1) (200,1) (208,1) (216,1), all bytes 128"; "Unlisted cut bytes are zero"
+unfoldable pub givenCuts : List ℕ
+givenCuts =
+    laidRuns 128
+    (run 30 1 ∷ run 71 1 ∷ run 84 1 ∷ run 91 7 ∷ run 192 1 ∷ run 200 1 ∷ run 208 1 ∷ run 216 1 ∷ [])
+    (replicate (7 * points givenSizes) 0)
+
+-- a change of the given block: none, a byte of the cut table at a value, or a sample at a value
+pub data Change : Type 0 where
+  unchanged : Change
+  byte-at : ℕ → ℕ → Change
+  sample-at : ℕ → ℤ → Change
+
+unfoldable pub changed : Change → Block
+changed unchanged = blockOf givenSizes givenSamples givenCuts
+changed (byte-at o t) = blockOf givenSizes givenSamples (set givenCuts o t)
+changed (sample-at p z) = blockOf givenSizes (set givenSamples p z) givenCuts

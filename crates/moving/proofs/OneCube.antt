@@ -1,0 +1,50 @@
+-- Moving in a block of one cube, whose points are the corners 0 to 7 and the centre 8: which points move, and by which codes.
+-- Assumes nothing.
+use Prim.Native.Nat.{ℕ}
+use mathlib.Core.Path.{_≡_, refl}
+use mathlib.Core.List.{List, [], _∷_, map}
+use lib.IntN.{pos, negℤ}
+use lib.ListN.{replicate, set}
+use Rattle.basics.specs.Lists.{firstFrom}
+use Rattle.basics.specs.Table.{Entry, _:=_, tableOf}
+use Rattle.lattice.specs.Counts.{cells, points}
+use Rattle.lattice.specs.Point.{linear, cell, kindOf}
+use Rattle.lattice.specs.Direction.{directions, direction, long, isStart, directionOf, step}
+use Rattle.lattice.specs.Edge.{staysIn, farKind, farIndex, near, edgeByte}
+use Rattle.moving.specs.Block.{Block, blockOf}
+use Rattle.moving.specs.Label.{labelOf, isZero}
+use Rattle.moving.specs.Violation.{limit, measured, violates}
+use Rattle.moving.specs.Moving.{labelAfter, live, violatedAlong, choice, codes, stateOf}
+
+-- a case: the one plus point among minus ones, its cut bytes that are not 0, and the codes that must come out
+pub record Case : Type 0 where
+  pub plus : ℕ
+  pub bytes : List Entry
+  pub moves : List Entry
+
+abbrev pub case : ℕ → List Entry → List Entry → Case
+case p b m = record { plus = p; bytes = b; moves = m }
+
+unfoldable pub block : Case → Block
+block c =
+    blockOf (record { nx = 1; ny = 1; nz = 1 }) (set (replicate 9 (negℤ (pos 5))) (c .plus) (pos 5)) (tableOf 63 (c .bytes))
+
+unfoldable pub theCases : List Case
+theCases =
+    -- codes 1 and 4 of point 0 violate: "the search stops at the first"
+    case 0 (0 := 63 ∷ 3 := 105 ∷ []) (0 := 1 ∷ [])
+    -- codes 4 and 11 of point 8: a start's codes are tried before an end's
+    ∷ case 8 (3 := 200 ∷ 59 := 100 ∷ []) (8 := 4 ∷ [])
+    -- codes 11 and 13 of point 8
+    ∷ case 8 (3 := 200 ∷ 19 := 200 ∷ []) (8 := 11 ∷ [])
+    -- "A cut is live while both its ends have non-zero labels": once point 0 has moved, the cut towards point 8 no longer moves it
+    ∷ case 0 (0 := 63 ∷ 3 := 151 ∷ []) (0 := 1 ∷ [])
+    -- "in ascending number": point 1 moves before point 8 does, whose move would have ended that cut
+    ∷ case 8 (3 := 200 ∷ 11 := 100 ∷ []) (1 := 5 ∷ 8 := 11 ∷ [])
+    ∷ []
+
+pub one-cube : map (λ c. stateOf (block c)) theCases ≡ map (λ c. tableOf 9 (c .moves)) theCases
+unfolding
+    theCases block tableOf codes choice violatedAlong live labelAfter labelOf isZero violates limit measured firstFrom
+    cells points linear cell kindOf directions direction long isStart directionOf step staysIn farKind farIndex near edgeByte
+one-cube = refl

@@ -1,0 +1,200 @@
+-- The parts of the place call, case by case, and that together they are `locate`. Assumes nothing.
+use Prim.Native.Nat.{ℕ, _+_, _*_, _-_, _/_, _%_, _≤_, _<_}
+use native.Mathlib.Omega.{arith}
+use native.Mathlib.Nat.{mul-le-mul}
+use mathlib.Core.Path.{_≡_, refl, sym, ap, _∙_}
+use mathlib.Core.Logic.{_⊎_, inl, inr}
+use mathlib.Core.Bool.{Bool, true, false, not}
+use mathlib.Core.List.{List}
+use lib.IntN.{ℤ, pos, natAbs, _+ℤ_, _-ℤ_, _*ℤ_}
+use lib.ListN.{length, getD}
+use lib.Dec.{eqb}
+use borrow.Author.Tests.{eq-eqb, ne-eqb, le-leb, lt-leb, lt-ltb, le-ltb}
+use Rattle.basics.specs.Choice.{if_then_else_}
+use Rattle.basics.proofs.Integer.{ring, nat, _⊕_, _⊖_, _⊗_}
+use Rattle.lattice.specs.declared.Sizes.{Sizes}
+use Rattle.lattice.specs.declared.Near.{Near}
+use Rattle.lattice.specs.declared.Near.the-variants.{At, Nothing}
+use Rattle.lattice.specs.Axis.{Axis, along-x, along-y, along-z}
+use Rattle.lattice.specs.Counts.{sizesFit, points}
+use Rattle.lattice.specs.Point.{doubled, kindOf, indexOf}
+use Rattle.lattice.specs.Direction.{Code, isStart, direction, step}
+use Rattle.lattice.specs.Edge.{neighbour, byteAt, edgeByte}
+use Rattle.lattice.proofs.Codes.{one-way}
+use Rattle.lattice.proofs.Edge.{far}
+use Rattle.moving.specs.Violation.{measured, violates}
+use Rattle.geometry.specs.Place.{latticePlace, rest, cutPlace, movedPlace, pointPlace, placeOf}
+use Rattle.filling.specs.Located.{reaches, believable, standsTo, stands, idFault, locate}
+use Rattle.places.specs.declared.Place.{Place}
+use Rattle.places.specs.Places.{placeAt, along, Nonnegative}
+use Rattle.places.specs.Answer.{placedAt, refusedWith, movedAnswer, pointAnswer, cutAnswer}
+use Rattle.places.proofs.FromEnd.{moved-along, cut-along}
+
+-- an integer that is a natural number
+natural : {z : ℤ} (n : ℕ) → z ≡ pos n → z ≡ pos (natAbs z)
+natural n e = rw e refl
+
+pub upward : (r : Place) (n : Axis → ℕ) → ((a : Axis) → placeAt r a ≡ pos (n a)) → Nonnegative r
+upward r n h = record { x-up = natural (n along-x) (h along-x); y-up = natural (n along-y) (h along-y); z-up = natural (n along-z) (h along-z) }
+
+-- a lattice place is not below 0, nor is a place on an edge of the block
+pub rest-up : (s : Sizes) (p : ℕ) (r : Place) → placeAt r ≡ rest s p → Nonnegative r
+unfolding latticePlace
+rest-up s p r e = upward r (λ a. 256 * doubled (kindOf s p) (indexOf s p a)) (λ a. ap (λ (f : Axis → ℤ). f a) e)
+
+-- t steps of at most 256 down from x, where a whole step stays above 0
+down-up : (x up down t : ℕ) → t ≤ 256 → (up ≡ 0) ⊎ (down ≡ 0) → down ≤ x + up
+    → pos (256 * x) +ℤ pos t *ℤ (pos up -ℤ pos down) ≡ pos (256 * x + t * up - t * down)
+down-up x up down t h w l =
+    ring (nat (256 * x) ⊕ nat t ⊗ (nat up ⊖ nat down)) (nat (256 * x + t * up - t * down)) (omega (arith, room w))
+  where
+    room : (up ≡ 0) ⊎ (down ≡ 0) → t * down ≤ 256 * x
+    room (inl z) = mul-le-mul h (omega arith)
+    room (inr z) = rw z (omega arith)
+
+pub along-up : (s : Sizes) (p c q t : ℕ) → p < points s → Code c → neighbour s p c ≡ At q → t ≤ 256 → (r : Place)
+    → placeAt r ≡ along (rest s p) (step c) t → Nonnegative r
+unfolding along latticePlace
+along-up s p c q t h g e l r is =
+    upward r (λ a. 256 * x a + t * step c a .up - t * step c a .down)
+    (λ a. ap (λ (f : Axis → ℤ). f a) is ∙ down-up (x a) (step c a .up) (step c a .down) t l (one-way c g a) (omega (arith, far s p c q h g e .leads a)))
+  where
+    x : Axis → ℕ
+    x a = doubled (kindOf s p) (indexOf s p a)
+
+-- a point with a code
+pub measured-small : (c t : ℕ) → t ≤ 256 → measured c t ≤ 256
+unfolding measured
+measured-small c t h = go (isStart c)
+  where
+    go : (z : Bool) → (if z then t else 256 - t) ≤ 256
+    go true = h
+    go false = omega arith
+
+module _ (s : Sizes) (cuts : List ℕ) (p c : ℕ) where
+  pub moved-none : neighbour s p c ≡ Nothing → refusedWith 9 ≡ movedAnswer s cuts p c (neighbour s p c)
+  unfolding movedAnswer
+  moved-none e = rw e refl
+
+  module _ (q t : ℕ) (e : neighbour s p c ≡ At q) (byte : t ≡ getD cuts (edgeByte p c q) 0) where
+    pub moved-far : violates c t ≡ false → refusedWith 9 ≡ movedAnswer s cuts p c (neighbour s p c)
+    unfolding movedAnswer
+    moved-far v = rw (e, rw byte at v) refl
+
+    pub moved-answer : p < points s → Code c → t ≤ 256 → violates c t ≡ true → (r : Place)
+        → placeAt r ≡ along (rest s p) (step c) (measured c t) → placedAt (placeAt r) ≡ movedAnswer s cuts p c (neighbour s p c)
+    unfolding movedAnswer
+    moved-answer h g l v r is =
+        rw (e, rw byte at v)
+        (ap placedAt (is ∙ ap (λ (n : ℕ). along (rest s p) (step c) (measured c n)) byte ∙ sym (moved-along s cuts p c q h g e (rw byte at l))))
+
+-- a point
+module _ (s : Sizes) (cuts state : List ℕ) (p : ℕ) where
+  pub point-rests : getD state p 0 ≡ 0 → (r : Place) → placeAt r ≡ rest s p → placedAt (placeAt r) ≡ pointAnswer s cuts state p
+  unfolding pointAnswer believable pointPlace
+  point-rests z r is = rw (eq-eqb _ _ z) (ap placedAt is)
+
+  pub point-strange : 14 < getD state p 0 → refusedWith 9 ≡ pointAnswer s cuts state p
+  unfolding pointAnswer believable
+  point-strange l = rw (ne-eqb (getD state p 0) 0 (λ z. omega arith), lt-leb _ _ l) refl
+
+  pub point-moved : (c : ℕ) → c ≡ getD state p 0 → (c ≡ 0 → ⊥) → c ≤ 14
+      → movedAnswer s cuts p c (neighbour s p c) ≡ pointAnswer s cuts state p
+  unfolding pointAnswer believable pointPlace movedAnswer reaches
+  point-moved c e n l = rw (sym e, ne-eqb c 0 n, le-leb c 14 l) (go (neighbour s p c))
+    where
+      go : (n : Near) → movedAnswer s cuts p c n ≡ (if reaches s cuts state p c n then placedAt (movedPlace s cuts p c n) else refusedWith 9)
+      go Nothing = refl
+      go (At q) = refl
+
+-- a cut
+module _ (s : Sizes) (cuts state : List ℕ) (o : ℕ) where
+  abbrev start : ℕ
+  start = o / 7
+
+  abbrev end : Near
+  end = neighbour s (o / 7) (o % 7 + 1)
+
+  own : byteAt (o / 7) (o % 7) ≡ o
+  own = omega arith
+
+  pub cut-none : end ≡ Nothing → refusedWith 8 ≡ cutAnswer s cuts state o
+  unfolding cutAnswer stands standsTo
+  cut-none e = rw e refl
+
+  pub cut-absent : getD cuts o 0 ≡ 0 → refusedWith 8 ≡ cutAnswer s cuts state o
+  unfolding cutAnswer stands standsTo
+  cut-absent z = go end
+    where
+      go : (n : Near) → refusedWith 8 ≡ (if standsTo s cuts state (o / 7) (o % 7) n then placedAt (cutPlace s cuts (o / 7) (o % 7)) else refusedWith 8)
+      go Nothing = refl
+      go (At q) = rw (own, eq-eqb _ _ z) refl
+
+  pub cut-moved : (getD state (o / 7) 0 ≡ 0 → ⊥) → refusedWith 8 ≡ cutAnswer s cuts state o
+  unfolding cutAnswer stands standsTo
+  cut-moved n = go end (eqb (getD cuts (byteAt (o / 7) (o % 7)) 0) 0) refl
+    where
+      go : (n : Near) (z : Bool) → eqb (getD cuts (byteAt (o / 7) (o % 7)) 0) 0 ≡ z
+          → refusedWith 8 ≡ (if standsTo s cuts state (o / 7) (o % 7) n then placedAt (cutPlace s cuts (o / 7) (o % 7)) else refusedWith 8)
+      go Nothing z e = refl
+      go (At q) true e = rw e refl
+      go (At q) false e = rw (e, ne-eqb _ _ n) refl
+
+  module _ (q : ℕ) (e : end ≡ At q) (b : getD cuts o 0 ≡ 0 → ⊥) (n : getD state (o / 7) 0 ≡ 0) where
+    pub cut-ends : (getD state q 0 ≡ 0 → ⊥) → refusedWith 8 ≡ cutAnswer s cuts state o
+    unfolding cutAnswer stands standsTo
+    cut-ends m = rw (e, own, ne-eqb _ _ b, eq-eqb _ _ n, ne-eqb _ _ m) refl
+
+    pub cut-answer : getD state q 0 ≡ 0 → (r : Place) → placeAt r ≡ along (rest s (o / 7)) (direction (o % 7)) (getD cuts o 0)
+        → placedAt (placeAt r) ≡ cutAnswer s cuts state o
+    unfolding cutAnswer stands standsTo
+    cut-answer m r is =
+        rw (e, own, ne-eqb _ _ b, eq-eqb _ _ n, eq-eqb _ _ m)
+        (ap placedAt (is ∙ sym (cut-along s cuts (o / 7) (o % 7) ∙ ap (λ (i : ℕ). along (rest s (o / 7)) (direction (o % 7)) (getD cuts i 0)) own)))
+
+-- the call
+module _ (s : Sizes) (cuts state : List ℕ) (id : ℕ) where
+  pub call-size : sizesFit s ≡ false → refusedWith 1 ≡ locate s cuts state id
+  unfolding locate
+  call-size e = rw e refl
+
+  module _ (f : sizesFit s ≡ true) where
+    pub call-cuts : (length cuts ≡ 7 * points s → ⊥) → refusedWith 3 ≡ locate s cuts state id
+    unfolding locate
+    call-cuts n = rw (f, ne-eqb _ _ n) refl
+
+    module _ (lc : length cuts ≡ 7 * points s) where
+      pub call-state : (length state ≡ points s → ⊥) → refusedWith 4 ≡ locate s cuts state id
+      unfolding locate
+      call-state n = rw (f, eq-eqb _ _ lc, ne-eqb _ _ n) refl
+
+      module _ (ls : length state ≡ points s) where
+        called : locate s cuts state id
+            ≡ (if eqb (idFault s cuts state id) 0 then placedAt (placeOf s cuts state id) else refusedWith (idFault s cuts state id))
+        unfolding locate
+        called = rw (f, eq-eqb _ _ lc, eq-eqb _ _ ls) refl
+
+        pub call-point : id < points s → pointAnswer s cuts state id ≡ locate s cuts state id
+        unfolding pointAnswer idFault placeOf
+        call-point l = rw (called, lt-ltb _ _ l) (go (believable s cuts state id))
+          where
+            go : (z : Bool) → (if z then placedAt (pointPlace s cuts state id) else refusedWith 9)
+                ≡ (if eqb (if z then 0 else 9) 0 then placedAt (pointPlace s cuts state id) else refusedWith (if z then 0 else 9))
+            go true = refl
+            go false = refl
+
+        pub call-cut : points s ≤ id → id < 8 * points s → cutAnswer s cuts state (id - points s) ≡ locate s cuts state id
+        unfolding cutAnswer idFault placeOf
+        call-cut l u = rw (called, le-ltb _ _ l, lt-leb _ _ u) (go (stands s cuts state (id - points s)))
+          where
+            at : Axis → ℤ
+            at = cutPlace s cuts ((id - points s) / 7) ((id - points s) % 7)
+
+            go : (z : Bool) → (if z then placedAt at else refusedWith 8)
+                ≡ (if eqb (if z then 0 else 8) 0 then placedAt at else refusedWith (if z then 0 else 8))
+            go true = refl
+            go false = refl
+
+        pub call-past : 8 * points s ≤ id → refusedWith 8 ≡ locate s cuts state id
+        unfolding idFault
+        call-past l = rw (called, le-ltb id (points s) (omega arith), le-leb _ _ l) refl

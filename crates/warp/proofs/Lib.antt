@@ -1,0 +1,5 @@
+pub mod Signs
+pub mod Next
+pub mod Codes
+pub mod Starts
+pub mod Idle

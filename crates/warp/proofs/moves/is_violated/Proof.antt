@@ -1,0 +1,32 @@
+-- A byte that does not violate needs no neighbour. Assumes nothing.
+use mathlib.Core.Path.{sym, ap, _∙_}
+use Rattle.moving.specs.Violation.{violates}
+use Rattle.warp.proofs.Next.{site-near}
+use Rattle.warp.proofs.Idle.{unviolated}
+use borrow.Author.Needs.{needs}
+use Rattle.warp.proofs.moves.is_violated.Statement.{statement}
+use Rattle.warp.proofs.moves.is_violated.Tie as tie
+
+cut-by-requires : tie.Need-cut-by-requires
+cut-by-requires c κs = search needs
+
+violates-requires : tie.Need-violates-requires
+violates-requires c κs = search needs
+
+is-violated-far-requires : tie.Need-is-violated-far-requires
+is-violated-far-requires c κs = search needs
+
+returns : tie.Need-returns
+returns c = search needs
+
+returns-2 : tie.Need-returns-2
+returns-2 c =
+    let a = c .before .before .before .before .before in
+    sym (unviolated _ _ _ _ (λ e n.
+    ap (violates (a .args .code)) (sym (c .before .before .cut-by .ensures e (sym (site-near (a .args .s) (a .args .q) (a .pre .0 .sized) (a .pre .1 .1) (a .args .code)) ∙ n)))
+    ∙ sym (c .before .violates .ensures) ∙ c .if1 .left))
+
+pub is-violated-spec : {M : Type 1} → statement M
+is-violated-spec =
+    tie.close
+    (tie.spec cut-by-requires violates-requires is-violated-far-requires returns returns-2)

@@ -1,0 +1,121 @@
+// The cut bytes of a point's fourteen edges, by strides: quick, and without asking which of the
+// edges exist.
+use lattice::Kind;
+use lattice::Site;
+use lattice::Sizes;
+ghost use mathlib.Core.Path.{_≡_};
+ghost use mathlib.Core.Bool.{true};
+ghost use Prim.Native.Nat.{ℕ, _+_, _*_, _-_, _<_, _≤_};
+ghost use lib.ListN.{length, getD};
+ghost use Rattle.lattice.specs.declared.Near.the-variants.{At};
+ghost use Rattle.lattice.specs.Counts.{Sized, points};
+ghost use Rattle.lattice.specs.Direction.{Code};
+ghost use Rattle.lattice.specs.Edge.{near, edgeByte};
+ghost use Rattle.lattice.specs.Site.{Sited, index};
+ghost use Rattle.warp.specs.Quick.{startBack};
+
+// So many numbers before p, or 0.
+fn before(p: usize, stride: usize) -> usize
+    ensures { λ r. ⌜ r ≡ p - stride ⌝ }
+{
+    if stride <= p { p - stride } else { 0 }
+}
+
+// The start of the edge in direction d that ends at a point.
+fn start_back(line: usize, layer: usize, wide: usize, own: usize, low: usize, d: usize) -> usize
+    requires { ⌜ (own ≤ 1000000) × (low ≤ 1000000) × (wide ≤ 65) ⌝ }
+    ensures { λ r. ⌜ r ≡ startBack line layer wide own low d ⌝ }
+{
+    match d {
+        0 => before(own, 1),
+        1 => before(own, line),
+        2 => before(own, layer),
+        3 => low,
+        4 => low + 1,
+        5 => low + wide,
+        _ => low + wide + 1,
+    }
+}
+
+// The same from the sizes: a corner is the end of edges from the eight centres about it, a centre
+// from the corners of its cube.
+fn start_of(s: Sizes, q: Site, d: usize) -> usize
+    requires { ⌜ Sized s ⌝ }
+    requires { ⌜ Sited s q ⌝ }
+    requires { ⌜ d < 7 ⌝ }
+    ensures { λ r. ⌜ ((e : ℕ) → near s (q .kind) (index q) (d + 8) ≡ At e → r ≡ e) × (r ≤ 1100000) ⌝ }
+{
+    let kind = q.kind;
+    match kind {
+        Kind::Corner => {
+            let wide = s.nx;
+            let line = wide + 1;
+            let layer = line * (s.ny + 1);
+            let low = q.across - (wide * s.ny + line);
+            start_back(line, layer, wide, q.own, low, d)
+        }
+        Kind::Centre => {
+            let line = s.nx;
+            let layer = line * s.ny;
+            start_back(line, layer, line + 1, q.own, q.across, d)
+        }
+    }
+}
+
+// Where the byte of the edge by a code stands, if the edge exists.
+fn byte_of(s: Sizes, q: Site, code: usize) -> usize
+    requires { ⌜ Sized s ⌝ }
+    requires { ⌜ Sited s q ⌝ }
+    requires { ⌜ Code code ⌝ }
+    ensures { λ r. ⌜ ((e : ℕ) → near s (q .kind) (index q) code ≡ At e → r ≡ edgeByte (q .own) code e) ⌝ }
+{
+    if code <= 7 {
+        return 7 * q.own + (code - 1);
+    }
+    let d = code - 8;
+    let start = start_of(s, q, d);
+    7 * start + d
+}
+
+// The cut byte of the edge by a code, if the edge exists.
+pub fn cut_by(s: Sizes, cuts: &[u8], q: Site, code: usize) -> u8
+    requires { ⌜ Sized s ⌝ }
+    requires { ⌜ Sited s q ⌝ }
+    requires { ⌜ Code code ⌝ }
+    ensures { λ r. ⌜ ((e : ℕ) → near s (q .kind) (index q) code ≡ At e → r ≡ getD (now (cuts .entry)) (edgeByte (q .own) code e) 0) ⌝ }
+{
+    let at = byte_of(s, q, code);
+    if at < cuts.len() {
+        return cuts[at];
+    }
+    0
+}
+
+// No cut on the edges that start at a point: the seven bytes of its part of the cut table are zero.
+pub fn starts_no_cut(part: &[u8]) -> bool
+    requires { ⌜ length (now part) ≡ 7 ⌝ }
+    ensures { λ r. ⌜ (r ≡ true → (d : ℕ) → d < 7 → getD (now (part .entry)) d 0 ≡ 0) ⌝ }
+{
+    for d in 0..7 {
+        if part[d] != 0 {
+            return false;
+        }
+    }
+    true
+}
+
+// No cut on the edges that end at a point.
+pub fn ends_no_cut(s: Sizes, cuts: &[u8], q: Site) -> bool
+    requires { ⌜ Sized s ⌝ }
+    requires { ⌜ Sited s q ⌝ }
+    ensures { λ r. ⌜ (r ≡ true → (d : ℕ) → d < 7 → (e : ℕ) → near s (q .kind) (index q) (d + 8) ≡ At e → getD (now (cuts .entry)) (edgeByte (q .own) (d + 8) e) 0 ≡ 0) ⌝ }
+{
+    let along_x = cut_by(s, cuts, q, 8) as usize;
+    let along_y = cut_by(s, cuts, q, 9) as usize;
+    let along_z = cut_by(s, cuts, q, 10) as usize;
+    let first = cut_by(s, cuts, q, 11) as usize;
+    let second = cut_by(s, cuts, q, 12) as usize;
+    let third = cut_by(s, cuts, q, 13) as usize;
+    let fourth = cut_by(s, cuts, q, 14) as usize;
+    along_x + along_y + along_z + (first + second + third + fourth) == 0
+}

@@ -1,0 +1,6 @@
+// Moving lattice points to cuts that are too near.
+pub mod bytes;
+pub mod labels;
+pub mod moves;
+pub mod violation;
+pub mod walk;

@@ -1,0 +1,153 @@
+// Which points move, and by which code.
+use crate::bytes;
+use crate::violation;
+use crate::walk;
+use lattice::Near;
+use lattice::Site;
+use lattice::Sizes;
+use lattice::counts;
+use lattice::edges;
+use lattice::numbers;
+ghost use mathlib.Core.Path.{_≡_};
+ghost use mathlib.Core.Bool.{true};
+ghost use mathlib.Core.List.{List};
+ghost use Prim.Native.Nat.{ℕ, _<_};
+ghost use lib.ListN.{length};
+ghost use Rattle.lattice.specs.declared.Sizes.{Sizes};
+ghost use Rattle.lattice.specs.declared.Near.the-variants.{At};
+ghost use Rattle.lattice.specs.Counts.{points};
+ghost use Rattle.lattice.specs.Direction.{Code};
+ghost use Rattle.lattice.specs.Site.{Sited};
+ghost use Rattle.moving.specs.Block.{blockOf, Tabled};
+ghost use Rattle.moving.specs.Label.{isZero};
+ghost use Rattle.moving.specs.Moving.{labelAfter, violatedAlong, violatedBy, stateOf};
+ghost use Rattle.filling.specs.Fill.{movedCount};
+ghost use Rattle.warp.specs.Quick.{Idle};
+
+// A point's label is zero: its sample is, or it is among the points done and has moved. Sizes and
+// cuts do not enter.
+fn is_still(samples: &[i16], done: &[u8], p: usize) -> bool
+    requires { ⌜ p < length (now samples) ⌝ }
+    ensures { λ r. ⌜ ((s : Sizes) (cuts : List ℕ) → r ≡ isZero (labelAfter (blockOf s (now (samples .entry)) cuts) (now (done .entry)) p)) ⌝ }
+{
+    if samples[p] == 0 {
+        return true;
+    }
+    if p < done.len() {
+        return done[p] != 0;
+    }
+    false
+}
+
+// The cut between p and q is live and violates p.
+fn is_violated_along(
+    s: Sizes,
+    samples: &[i16],
+    cuts: &[u8],
+    done: &[u8],
+    p: usize,
+    code: usize,
+    q: usize,
+) -> bool
+    requires { ⌜ Tabled (blockOf s (now samples) (now cuts)) ⌝ }
+    requires { ⌜ Code code ⌝ }
+    requires { ⌜ (p < points s) × (q < points s) ⌝ }
+    ensures { λ r. ⌜ r ≡ violatedAlong (blockOf s (now (samples .entry)) (now (cuts .entry))) (now (done .entry)) p code (At q) ⌝ }
+{
+    if is_still(samples, done, p) {
+        return false;
+    }
+    if is_still(samples, done, q) {
+        return false;
+    }
+    let at = edges::edge_byte(p, code, q);
+    violation::violates(code, cuts[at])
+}
+
+// The edge by a code exists, its cut is live and violates the point.
+fn is_violated_far(
+    s: Sizes,
+    samples: &[i16],
+    cuts: &[u8],
+    done: &[u8],
+    q: Site,
+    code: usize,
+) -> bool
+    requires { ⌜ Tabled (blockOf s (now samples) (now cuts)) ⌝ }
+    requires { ⌜ Code code ⌝ }
+    requires { ⌜ Sited s q ⌝ }
+    ensures { λ r. ⌜ r ≡ violatedBy (blockOf s (now (samples .entry)) (now (cuts .entry))) (now (done .entry)) (q .own) code ⌝ }
+{
+    let far = edges::neighbour(s, q, code);
+    match far {
+        Near::Nothing => false,
+        Near::At(e) => is_violated_along(s, samples, cuts, done, q.own, code, e),
+    }
+}
+
+// The same, asking first whether the byte violates at all: then few neighbours are looked up.
+fn is_violated(s: Sizes, samples: &[i16], cuts: &[u8], done: &[u8], q: Site, code: usize) -> bool
+    requires { ⌜ Tabled (blockOf s (now samples) (now cuts)) ⌝ }
+    requires { ⌜ Code code ⌝ }
+    requires { ⌜ Sited s q ⌝ }
+    ensures { λ r. ⌜ r ≡ violatedBy (blockOf s (now (samples .entry)) (now (cuts .entry))) (now (done .entry)) (q .own) code ⌝ }
+{
+    let t = bytes::cut_by(s, cuts, q, code);
+    if violation::violates(code, t) {
+        return is_violated_far(s, samples, cuts, done, q, code);
+    }
+    false
+}
+
+// Nothing has to be searched: the sample is zero, or no cut stands on any of the fourteen edges.
+fn is_idle(s: Sizes, samples: &[i16], cuts: &[u8], q: Site) -> bool
+    requires { ⌜ Tabled (blockOf s (now samples) (now cuts)) ⌝ }
+    requires { ⌜ Sited s q ⌝ }
+    ensures { λ r. ⌜ (r ≡ true → Idle (blockOf s (now (samples .entry)) (now (cuts .entry))) (q .own)) ⌝ }
+{
+    let p = q.own;
+    if samples[p] == 0 {
+        return true;
+    }
+    let at = 7 * p;
+    if bytes::starts_no_cut(&cuts[at..at + 7]) {
+        return bytes::ends_no_cut(s, cuts, q);
+    }
+    false
+}
+
+// Points are taken once each, in ascending number; the search of a point sees the codes of those
+// before it and stops at the first code that violates. The answer counts the points that move.
+pub fn warp(s: Sizes, samples: &[i16], cuts: &[u8], state: &mut [u8]) -> usize
+    requires { ⌜ Tabled (blockOf s (now samples) (now cuts)) ⌝ }
+    requires { ⌜ length (now state) ≡ points s ⌝ }
+    ensures { λ r. ⌜ now (state .exit) ≡ stateOf (blockOf s (now (samples .entry)) (now (cuts .entry))) ⌝ }
+    ensures { λ r. ⌜ r ≡ movedCount (stateOf (blockOf s (now (samples .entry)) (now (cuts .entry)))) ⌝ }
+{
+    let n = counts::point_count(s);
+    let mut q = numbers::locate(s, 0);
+    let mut moved: usize = 0;
+    for p in 0..n {
+        let mut code: u8 = 1;
+        if is_idle(s, samples, cuts, q) {
+            code = 15;
+        }
+        let found = 'search: loop {
+            if 14 < code {
+                break 'search 0;
+            }
+            if is_violated(s, samples, cuts, &state[..p], q, code as usize) {
+                break 'search code;
+            }
+            code += 1;
+        };
+        state[p] = found;
+        if found != 0 {
+            moved += 1;
+        }
+        if p + 1 < n {
+            q = walk::next_site(s, q);
+        }
+    }
+    moved
+}

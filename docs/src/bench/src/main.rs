@@ -1,0 +1,57 @@
+//! Times filling beside the separate software: the same blocks, tables and process, turn and turn about. Tables are lent as the
+//! call before left them; the first call of each is not counted. Prints the best and the middle of the times.
+use reference::block::Block;
+use reference::damage::Filling;
+use reference::shapes::{air, ribs, sphere};
+use std::time::Instant;
+
+const TURNS: usize = 25;
+
+struct Times {
+    best: f64,
+    middle: f64,
+}
+
+fn times(mut all: Vec<f64>) -> Times {
+    all.sort_by(f64::total_cmp);
+    Times {
+        best: all[0],
+        middle: all[all.len() / 2],
+    }
+}
+
+fn once(filling: Filling, block: &Block, state: &mut [u8], rows: &mut [u32]) -> (f64, u64) {
+    let [nx, ny, nz] = block.sizes;
+    let began = Instant::now();
+    let filled = filling(nx, ny, nz, &block.samples, &block.cuts, state, rows);
+    let took = began.elapsed().as_secs_f64() * 1000.0;
+    assert_eq!(filled.number, 0);
+    (took, filled.rows)
+}
+
+fn compare_on(name: &str, block: &Block) {
+    let mut state = vec![0; block.samples.len()];
+    let mut rows = vec![0; 8_000_000];
+    let (mut ours, mut theirs, mut count) = (Vec::new(), Vec::new(), 0);
+    for turn in 0..=TURNS {
+        let (a, n) = once(compare::fill, block, &mut state, &mut rows);
+        let (b, _) = once(reference::fill::fill, block, &mut state, &mut rows);
+        count = n;
+        if turn > 0 {
+            ours.push(a);
+            theirs.push(b);
+        }
+    }
+    let (a, b) = (times(ours), times(theirs));
+    let rate = |t: f64| count as f64 / t;
+    println!(
+        "{name:7} {count:9} rows | library {:7.2} ms best, {:7.2} middle, {:9.0} rows/ms | separate {:7.2} ms best, {:7.2} middle, {:9.0} rows/ms | ratio {:.2}",
+        a.best, a.middle, rate(a.best), b.best, b.middle, rate(b.best), a.best / b.best
+    );
+}
+
+fn main() {
+    compare_on("sphere", &sphere());
+    compare_on("air", &air());
+    compare_on("ribs", &ribs());
+}

@@ -1,0 +1,1 @@
+//! Tests that hold the proved library against the separate software: see `tests/`.

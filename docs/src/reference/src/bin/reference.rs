@@ -1,0 +1,81 @@
+//! Command line tool. Block files are read from standard input and written to
+//! standard output.
+
+use reference::block::Block;
+use reference::blockfile::{bench_output, fill_block, read, write};
+use reference::generate::any_block;
+use reference::lattice::LARGEST_SIZE;
+use reference::random::Random;
+use std::io::{Read, Write};
+use std::process::ExitCode;
+
+const USAGE: &str = "\
+usage: reference <command>
+  bench-output        block file in, the bench program's output out
+  tables              block file (sizes to 64) in, all answers out: number, T,
+                      M, place; the state bytes; the rows, one a line
+  case                the given case of document 01 out, as a block file
+  random <seed> <n>   a random valid block with sizes 1 to n out, as a block file
+";
+
+fn main() -> ExitCode {
+    let arguments: Vec<String> = std::env::args().skip(1).collect();
+    let arguments: Vec<&str> = arguments.iter().map(String::as_str).collect();
+    let output = match arguments[..] {
+        ["bench-output"] => Some(bench_output(&input()).into_bytes()),
+        ["tables"] => Some(tables(&input()).into_bytes()),
+        ["case"] => write(&Block::given_case()),
+        ["random", seed, largest] => random_file(seed, largest),
+        _ => None,
+    };
+    let Some(output) = output else {
+        eprint!("{USAGE}");
+        return ExitCode::from(2);
+    };
+    match std::io::stdout().write_all(&output) {
+        Ok(()) => ExitCode::SUCCESS,
+        Err(_) => ExitCode::FAILURE,
+    }
+}
+
+fn input() -> Vec<u8> {
+    let mut bytes = Vec::new();
+    std::io::stdin()
+        .read_to_end(&mut bytes)
+        .expect("standard input can be read");
+    bytes
+}
+
+fn random_file(seed: &str, largest: &str) -> Option<Vec<u8>> {
+    let seed = seed.parse().ok()?;
+    let largest = largest.parse().ok()?;
+    (1..=LARGEST_SIZE).contains(&largest).then_some(())?;
+    write(&any_block(&mut Random::new(seed), largest))
+}
+
+/// The whole answer of filling, or the refusal's number if the file cannot be
+/// read.
+fn tables(file: &[u8]) -> String {
+    let block = match read(file, LARGEST_SIZE) {
+        Ok(block) => block,
+        Err(number) => return format!("{number} 0 0 0\n"),
+    };
+    let tables = fill_block(&block);
+    let filled = tables.filled;
+    let mut text = format!(
+        "{} {} {} {}\n",
+        filled.number, filled.rows, filled.moved, filled.place
+    );
+    if filled.number == 0 {
+        text += &line_of(&tables.state);
+        for row in tables.rows.chunks(4) {
+            text += &line_of(row);
+        }
+    }
+    text
+}
+
+fn line_of<T: ToString>(numbers: &[T]) -> String {
+    let numbers: Vec<String> = numbers.iter().map(T::to_string).collect();
+    numbers.join(" ") + "\n"
+}

@@ -1,0 +1,152 @@
+//! Reading the inputs of the fast filling: labels, rim test, cut byte test.
+//!
+//! Follows document 01, "The block" (which bytes must be non-zero) and
+//! "Calls and refusals" (5, then the lowest byte that is a 6 or a 7).
+//! Everything goes line by line; a line or a point whose bytes must all be
+//! zero is tested as a group. Since every cut byte is looked at here, points
+//! that some cut violates are marked on the way, and moving need not search
+//! the others.
+
+use crate::cut::{violates, End};
+use crate::refusal;
+use crate::strides::{Grids, Line, Reach, LONGEST_LINE};
+
+/// Label of a point on the skin.
+pub const ZERO: u8 = 0;
+/// Label of a point in the part.
+pub const PLUS: u8 = 1;
+/// Label of a point in the air.
+pub const MINUS: u8 = 2;
+/// The bits of a label byte that hold the label.
+pub const LABEL: u8 = 3;
+/// Set beside the label if some cut, live at the outset, violates the point.
+pub const MARK: u8 = 4;
+
+/// A refused cut byte.
+#[derive(Clone, Copy, Debug, PartialEq, Eq)]
+pub struct WrongByte {
+    /// 6 or 7.
+    pub number: u32,
+    /// The byte's offset in the cut table.
+    pub offset: usize,
+}
+
+/// The labels of all points.
+pub fn read_labels(samples: &[i16]) -> Vec<u8> {
+    let label = |&sample: &i16| u8::from(sample > 0) * PLUS + u8::from(sample < 0) * MINUS;
+    samples.iter().map(label).collect()
+}
+
+/// The lowest rim point with label plus.
+pub fn lowest_plus_on_rim(grids: &Grids, labels: &[u8]) -> Option<usize> {
+    for line in grids.lines() {
+        let own = &labels[line.first..line.first + line.count()];
+        let last = own.len() - 1;
+        let found = if line.is_on_rim() {
+            own.iter().position(|&label| label == PLUS)
+        } else if own[0] == PLUS {
+            Some(0)
+        } else {
+            (own[last] == PLUS).then_some(last)
+        };
+        if let Some(index) = found {
+            return Some(line.first + index);
+        }
+    }
+    None
+}
+
+/// Tests every cut byte and marks the points that a cut violates.
+pub fn test_cuts(grids: &Grids, labels: &mut [u8], cuts: &[u8]) -> Result<(), WrongByte> {
+    for line in grids.lines() {
+        let reaches = line.forward();
+        let bytes = &cuts[7 * line.first..7 * (line.first + line.count())];
+        let mut needs = [0; LONGEST_LINE];
+        let needs = &mut needs[..line.count()];
+        find_needs(&line, &reaches, labels, needs);
+        if any_bit(needs) {
+            test_line(&line, &reaches, needs, bytes, labels)?;
+        } else if any_bit(bytes) {
+            return Err(stray_among(bytes, 7 * line.first));
+        }
+    }
+    Ok(())
+}
+
+/// Sets bit d of a point's need if its edge in direction d must be cut.
+fn find_needs(line: &Line, reaches: &[Reach; 7], labels: &[u8], needs: &mut [u8]) {
+    for (direction, reach) in reaches.iter().enumerate() {
+        let count = reach.to - reach.from;
+        let starts = line.first + reach.from;
+        let ends = reach.other_end(starts);
+        let needs = &mut needs[reach.from..reach.to];
+        let starts = &labels[starts..starts + count];
+        let ends = &labels[ends..ends + count];
+        for ((need, start), end) in needs.iter_mut().zip(starts).zip(ends) {
+            let opposite = (start | end) & LABEL == PLUS | MINUS;
+            *need |= u8::from(opposite) << direction;
+        }
+    }
+}
+
+fn any_bit(bytes: &[u8]) -> bool {
+    bytes.iter().fold(0, |all, byte| all | byte) != 0
+}
+
+/// Tests the bytes of one line's points against their needs.
+fn test_line(
+    line: &Line,
+    reaches: &[Reach; 7],
+    needs: &[u8],
+    bytes: &[u8],
+    labels: &mut [u8],
+) -> Result<(), WrongByte> {
+    let (sevens, _) = bytes.as_chunks::<7>();
+    for (index, (&need, seven)) in needs.iter().zip(sevens).enumerate() {
+        if need == 0 && *seven == [0; 7] {
+            continue;
+        }
+        let point = line.first + index;
+        let cut = bits_of_cuts(seven);
+        if cut != need {
+            let direction = (cut ^ need).trailing_zeros() as usize;
+            let is_gap = need >> direction & 1 != 0;
+            return Err(WrongByte {
+                number: if is_gap { refusal::GAP } else { refusal::STRAY },
+                offset: 7 * point + direction,
+            });
+        }
+        mark_violated(point, reaches, need, seven, labels);
+    }
+    Ok(())
+}
+
+/// Bit d is set if byte d is a cut.
+fn bits_of_cuts(seven: &[u8; 7]) -> u8 {
+    (0..7).fold(0, |bits, d| bits | u8::from(seven[d] != 0) << d)
+}
+
+/// Marks the points that the cuts of one point's edges violate. Which cuts do
+/// is hard to foresee, so the marks are set without branches.
+fn mark_violated(point: usize, reaches: &[Reach; 7], need: u8, seven: &[u8; 7], labels: &mut [u8]) {
+    let mut left = need;
+    let mut own = false;
+    while left != 0 {
+        let direction = left.trailing_zeros() as usize;
+        let t = seven[direction];
+        own |= violates(t, direction, End::Start);
+        let other = violates(t, direction, End::Far);
+        labels[reaches[direction].other_end(point)] |= u8::from(other) * MARK;
+        left &= left - 1;
+    }
+    labels[point] |= u8::from(own) * MARK;
+}
+
+/// The refusal of the first non-zero byte among some that must all be zero.
+fn stray_among(bytes: &[u8], first_offset: usize) -> WrongByte {
+    let index = bytes.iter().position(|&byte| byte != 0);
+    WrongByte {
+        number: refusal::STRAY,
+        offset: first_offset + index.expect("a byte that is not zero"),
+    }
+}

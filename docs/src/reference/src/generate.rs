@@ -1,0 +1,207 @@
+//! Random valid blocks (document 01, "The block"), in several mixes of labels
+//! and with cut bytes often at the limits of violation.
+
+use crate::block::Block;
+use crate::lattice::{Edge, Lattice};
+use crate::random::Random;
+
+/// How the labels of a block are mixed.
+#[derive(Clone, Copy, Debug, PartialEq, Eq)]
+pub enum Mix {
+    /// Nearly everything off the rim is plus.
+    Dense,
+    /// Few points are plus.
+    Sparse,
+    /// Plus and minus alike, some zeros.
+    Even,
+    /// Mostly zeros.
+    Zeros,
+    /// Plates one or two cubes thin, square to one axis.
+    Ribs,
+    /// A ball anywhere in the block.
+    Ball,
+    /// One grid plus, the other minus: as many cuts as there can be.
+    Checker,
+}
+
+/// All mixes.
+pub const MIXES: [Mix; 7] = [
+    Mix::Dense,
+    Mix::Sparse,
+    Mix::Even,
+    Mix::Zeros,
+    Mix::Ribs,
+    Mix::Ball,
+    Mix::Checker,
+];
+
+/// How the cut bytes are drawn.
+#[derive(Clone, Copy, Debug, PartialEq, Eq)]
+pub enum Cutting {
+    /// Mostly between the limits, so that few points move.
+    Calm,
+    /// Only at the limits and the ends.
+    Limits,
+    /// Anything, often at the limits.
+    Wild,
+}
+
+/// All ways to draw cut bytes.
+pub const CUTTINGS: [Cutting; 3] = [Cutting::Calm, Cutting::Limits, Cutting::Wild];
+
+/// The bytes next to a limit of violation, and the outermost ones.
+pub const LIMIT_BYTES: [u8; 10] = [1, 63, 64, 105, 106, 150, 151, 192, 193, 255];
+
+/// A random valid block with sizes from 1 to `largest`.
+pub fn any_block(random: &mut Random, largest: u32) -> Block {
+    let sizes = [0; 3].map(|_| any_size(random, largest));
+    let mix = random.pick(&MIXES);
+    let cutting = random.pick(&CUTTINGS);
+    block(random, sizes, mix, cutting)
+}
+
+/// A random size; the larger of two, as small blocks are all rim.
+fn any_size(random: &mut Random, largest: u32) -> u32 {
+    let draw = |random: &mut Random| random.between(1, i64::from(largest)) as u32;
+    draw(random).max(draw(random))
+}
+
+/// A random valid block of these sizes, which must be allowed ones.
+pub fn block(random: &mut Random, sizes: [u32; 3], mix: Mix, cutting: Cutting) -> Block {
+    let lattice = Lattice::new(sizes[0], sizes[1], sizes[2]).expect("allowed sizes");
+    let samples = random_samples(random, &lattice, mix);
+    let cuts = cuts_where_needed(&lattice, &samples, |_, _| random_cut(random, cutting));
+    Block {
+        sizes,
+        samples,
+        cuts,
+    }
+}
+
+/// A cut table with bytes exactly where they must be; `byte` gives each from
+/// the samples at the edge's start and end.
+pub fn cuts_where_needed(
+    lattice: &Lattice,
+    samples: &[i16],
+    mut byte: impl FnMut(i16, i16) -> u8,
+) -> Vec<u8> {
+    let mut cuts = vec![0; 7 * samples.len()];
+    for start in 0..samples.len() {
+        for direction in 0..7 {
+            let Some(end) = lattice.end(start, direction) else {
+                continue;
+            };
+            let (a, b) = (samples[start], samples[end]);
+            if a.signum() * b.signum() < 0 {
+                cuts[Edge { start, direction }.offset()] = byte(a, b);
+            }
+        }
+    }
+    cuts
+}
+
+fn random_cut(random: &mut Random, cutting: Cutting) -> u8 {
+    let at_limit = match cutting {
+        Cutting::Calm => 5,
+        Cutting::Limits => 100,
+        Cutting::Wild => 50,
+    };
+    if random.percent(at_limit) {
+        return random.pick(&LIMIT_BYTES);
+    }
+    match cutting {
+        Cutting::Calm => random.between(106, 150) as u8,
+        _ => random.between(1, 255) as u8,
+    }
+}
+
+fn random_samples(random: &mut Random, lattice: &Lattice, mix: Mix) -> Vec<i16> {
+    let shape = Shape::new(random, lattice);
+    (0..lattice.point_count())
+        .map(|point| {
+            let mut label = random_label(random, lattice, mix, &shape, point);
+            if lattice.is_rim(point) && label > 0 {
+                label = random.pick(&[-1, -1, 0]);
+            }
+            random_sample(random, label)
+        })
+        .collect()
+}
+
+/// A sample with this sign, often an extreme one.
+fn random_sample(random: &mut Random, label: i32) -> i16 {
+    match label {
+        1 => match random.below(4) {
+            0 => 1,
+            1 => 32767,
+            _ => random.between(1, 32767) as i16,
+        },
+        -1 => match random.below(4) {
+            0 => -1,
+            1 => -32768,
+            _ => random.between(-32768, -1) as i16,
+        },
+        _ => 0,
+    }
+}
+
+/// What ribs and balls look like in one block.
+struct Shape {
+    axis: usize,
+    phase: i32,
+    period: i32,
+    thick: i32,
+    centre: [i32; 3],
+    radius: i32,
+}
+
+impl Shape {
+    fn new(random: &mut Random, lattice: &Lattice) -> Shape {
+        let wide = lattice.cubes().map(|n| 2 * n as i64);
+        Shape {
+            axis: random.below(3),
+            phase: random.between(0, 5) as i32,
+            period: random.between(5, 8) as i32,
+            thick: random.between(1, 4) as i32,
+            centre: wide.map(|w| random.between(0, w) as i32),
+            radius: random.between(1, wide[0].max(wide[1]).max(wide[2])) as i32,
+        }
+    }
+
+    /// The sign of the ball's squared radius less the squared distance.
+    fn in_ball(&self, at: [i32; 3]) -> i32 {
+        let square = |n: usize| (at[n] - self.centre[n]).pow(2);
+        (self.radius.pow(2) - square(0) - square(1) - square(2)).signum()
+    }
+
+    fn in_rib(&self, at: [i32; 3]) -> bool {
+        (at[self.axis] + self.phase) % self.period < self.thick
+    }
+}
+
+/// A label as 1, -1 or 0; the rim is seen to by the caller.
+fn random_label(
+    random: &mut Random,
+    lattice: &Lattice,
+    mix: Mix,
+    shape: &Shape,
+    point: usize,
+) -> i32 {
+    let at = lattice.coordinates(point);
+    let (plus, zero) = match mix {
+        Mix::Dense => (90, 3),
+        Mix::Sparse => (10, 10),
+        Mix::Even => (45, 10),
+        Mix::Zeros => (25, 60),
+        Mix::Ribs if shape.in_rib(at) => (95, 2),
+        Mix::Ribs => (2, 3),
+        Mix::Ball => return shape.in_ball(at),
+        Mix::Checker if point < lattice.corner_count() => (97, 1),
+        Mix::Checker => (2, 1),
+    };
+    match random.below(100) {
+        n if n < plus => 1,
+        n if n < plus + zero => 0,
+        _ => -1,
+    }
+}

@@ -1,0 +1,44 @@
+//! An independent reference implementation of document 01, "Stuffing a
+//! scanned block with tetrahedra" (uniform isosurface stuffing).
+//!
+//! It was written from document 01 and the paper it cites alone, to be
+//! compared with another implementation: in its answers and in its time.
+//!
+//! | Module | Meaning |
+//! |---|---|
+//! | [`lattice`] | points, numbers, directions, rim (plain arithmetic) |
+//! | [`cut`] | cut bytes, violation, codes, places of cuts |
+//! | [`refusal`] | the refusals' numbers |
+//! | [`fill`] | filling a block, written for speed |
+//! | [`strides`], [`bytes`], [`warp`], [`stencil`], [`emit`] | the steps of the fast filling |
+//! | [`plain`] | filling a block, sentence by sentence: the oracle |
+//! | [`place`] | measures of a block and the place of an id |
+//! | [`block`], [`blockfile`] | a block, its file, the bench program's output |
+//! | [`check`] | brute-force check of the finished mesh (demand 3) |
+//! | [`random`], [`generate`], [`damage`], [`shapes`] | inputs for tests and timing |
+//!
+//! The fast filling and the plain one share the counts of points, the seven
+//! directions and the test of violation, which the given cases of document 01
+//! pin down; for the rest each has its own code.
+
+#![forbid(unsafe_code)]
+#![warn(missing_docs)]
+
+pub mod block;
+pub mod blockfile;
+pub mod bytes;
+pub mod check;
+pub mod cut;
+pub mod damage;
+pub mod emit;
+pub mod fill;
+pub mod generate;
+pub mod lattice;
+pub mod place;
+pub mod plain;
+pub mod random;
+pub mod refusal;
+pub mod shapes;
+pub mod stencil;
+pub mod strides;
+pub mod warp;

@@ -1,0 +1,241 @@
+//! Filling a block sentence by sentence: slow, simple, the oracle.
+//!
+//! Follows document 01, "The block", "Moving points", "Lattice tetrahedra and
+//! rows" and "Calls and refusals" in their order. Every number is decoded,
+//! every tetrahedron listed, every corner sorted, every six-volume computed
+//! from the places of the moved points.
+
+use crate::cut::{edge_of_code, place_of_cut, place_of_point, six_volume, violates, Place};
+use crate::fill::Filled;
+use crate::lattice::{Edge, Lattice};
+use crate::refusal;
+
+/// A corner in a row: a lattice point or the cut of an edge.
+#[derive(Clone, Copy, Debug, PartialEq, Eq)]
+pub enum Corner {
+    /// A lattice point.
+    Point(usize),
+    /// The cut of an edge.
+    Cut(Edge),
+}
+
+/// What moving the points leaves behind.
+#[derive(Clone, Debug, PartialEq, Eq)]
+pub struct Moved {
+    /// The state table: a code from 1 to 14, or 0 for a point that stayed.
+    pub codes: Vec<u8>,
+    /// The labels afterwards: 1 plus, -1 minus, 0 zero.
+    pub labels: Vec<i16>,
+}
+
+/// Fills a block; same contract as [`crate::fill::fill`].
+pub fn fill(
+    nx: u32,
+    ny: u32,
+    nz: u32,
+    samples: &[i16],
+    cuts: &[u8],
+    state: &mut [u8],
+    rows: &mut [u32],
+) -> Filled {
+    let Some(lattice) = Lattice::new(nx, ny, nz) else {
+        return Filled::refused(refusal::SIZE, 0);
+    };
+    let n = lattice.point_count();
+    if samples.len() != n {
+        return Filled::refused(refusal::SAMPLES, 0);
+    }
+    if cuts.len() != 7 * n {
+        return Filled::refused(refusal::CUTS, 0);
+    }
+    if state.len() != n {
+        return Filled::refused(refusal::STATE, 0);
+    }
+    if let Some(point) = lowest_plus_on_rim(&lattice, samples) {
+        return Filled::refused(refusal::RIM, point);
+    }
+    if let Some((number, offset)) = lowest_wrong_byte(&lattice, samples, cuts) {
+        return Filled::refused(number, offset);
+    }
+    let moved = move_points(&lattice, samples, cuts);
+    state.copy_from_slice(&moved.codes);
+    let ids = ids_of_rows(&lattice, cuts, &moved);
+    let fits = ids.len() <= rows.len();
+    if fits {
+        rows[..ids.len()].copy_from_slice(&ids);
+    }
+    Filled {
+        number: if fits { refusal::NONE } else { refusal::TABLE },
+        rows: ids.len() as u64 / 4,
+        moved: moved.codes.iter().filter(|&&code| code != 0).count() as u64,
+        place: 0,
+    }
+}
+
+fn lowest_plus_on_rim(lattice: &Lattice, samples: &[i16]) -> Option<usize> {
+    (0..samples.len()).find(|&point| lattice.is_rim(point) && samples[point] > 0)
+}
+
+/// The lowest offset whose byte is a gap or a stray, with that refusal.
+fn lowest_wrong_byte(lattice: &Lattice, samples: &[i16], cuts: &[u8]) -> Option<(u32, usize)> {
+    for (offset, &byte) in cuts.iter().enumerate() {
+        let (start, direction) = (offset / 7, offset % 7);
+        let must_be_cut = match lattice.end(start, direction) {
+            None => false,
+            Some(end) => {
+                let (a, b) = (samples[start], samples[end]);
+                (a > 0 && b < 0) || (a < 0 && b > 0)
+            }
+        };
+        if must_be_cut && byte == 0 {
+            return Some((refusal::GAP, offset));
+        }
+        if !must_be_cut && byte != 0 {
+            return Some((refusal::STRAY, offset));
+        }
+    }
+    None
+}
+
+/// Takes the points once each, in ascending number, and moves each non-zero
+/// one that a live cut violates.
+pub fn move_points(lattice: &Lattice, samples: &[i16], cuts: &[u8]) -> Moved {
+    let mut labels: Vec<i16> = samples.iter().map(|sample| sample.signum()).collect();
+    let mut codes = vec![0; labels.len()];
+    for point in 0..labels.len() {
+        if labels[point] == 0 {
+            continue;
+        }
+        let first = (1..=14).find(|&code| live_and_violating(lattice, cuts, &labels, point, code));
+        if let Some(code) = first {
+            codes[point] = code;
+            labels[point] = 0;
+        }
+    }
+    Moved { codes, labels }
+}
+
+fn live_and_violating(
+    lattice: &Lattice,
+    cuts: &[u8],
+    labels: &[i16],
+    point: usize,
+    code: u8,
+) -> bool {
+    let Some((edge, end)) = edge_of_code(lattice, point, code) else {
+        return false;
+    };
+    let other = lattice.end(edge.start, edge.direction).unwrap();
+    let live = labels[edge.start] != 0 && labels[other] != 0;
+    live && violates(cuts[edge.offset()], edge.direction, end)
+}
+
+/// The lattice tetrahedra in their order: two centres, lower first, then the
+/// two ends of an edge of the face their cubes share.
+pub fn tetrahedra(lattice: &Lattice) -> Vec<[usize; 4]> {
+    let mut list = Vec::new();
+    for axis in 0..3 {
+        for centre in lattice.corner_count()..lattice.point_count() {
+            let mut at = lattice.coordinates(centre);
+            at[axis] += 2;
+            let Some(next) = lattice.number(at) else {
+                continue;
+            };
+            at[axis] -= 1;
+            let face = corners_around(lattice, at, axis);
+            for turn in 0..4 {
+                list.push([centre, next, face[turn], face[(turn + 1) % 4]]);
+            }
+        }
+    }
+    list
+}
+
+/// The four corners of the face with this middle, square to this axis.
+fn corners_around(lattice: &Lattice, middle: [i32; 3], axis: usize) -> [usize; 4] {
+    let (second, third) = ((axis + 1) % 3, (axis + 2) % 3);
+    [(-1, -1), (1, -1), (1, 1), (-1, 1)].map(|(u, v)| {
+        let mut at = middle;
+        at[second] += u;
+        at[third] += v;
+        lattice.number(at).expect("a corner of a face")
+    })
+}
+
+/// The ids of all rows, four a row.
+fn ids_of_rows(lattice: &Lattice, cuts: &[u8], moved: &Moved) -> Vec<u32> {
+    let mut ids = Vec::new();
+    for tetrahedron in tetrahedra(lattice) {
+        for row in rows_of(lattice, &moved.labels, tetrahedron) {
+            let places = row.map(|corner| place_of(lattice, cuts, &moved.codes, corner));
+            let [a, b, c, d] = row.map(|corner| id_of(lattice, corner));
+            if six_volume(places) < 0 {
+                ids.extend([a, b, d, c]);
+            } else {
+                ids.extend([a, b, c, d]);
+            }
+        }
+    }
+    ids
+}
+
+/// The rows of one lattice tetrahedron, before the last two corners may
+/// change places.
+pub fn rows_of(lattice: &Lattice, labels: &[i16], mut tetrahedron: [usize; 4]) -> Vec<[Corner; 4]> {
+    tetrahedron.sort();
+    let with_label = |label: i16| -> Vec<usize> {
+        let has_label = |point: &usize| labels[*point] == label;
+        tetrahedron.into_iter().filter(has_label).collect()
+    };
+    let (plus, minus, zero) = (with_label(1), with_label(-1), with_label(0));
+    let p = |n: usize| Corner::Point(plus[n - 1]);
+    let z = |n: usize| Corner::Point(zero[n - 1]);
+    let pm = |n: usize, k: usize| {
+        let edge = lattice.edge_between(plus[n - 1], minus[k - 1]);
+        Corner::Cut(edge.expect("an edge of the tetrahedron"))
+    };
+    match (plus.len(), minus.len(), zero.len()) {
+        (0, _, _) => vec![],
+        (4, 0, 0) => vec![[p(1), p(2), p(3), p(4)]],
+        (3, 0, 1) => vec![[p(1), p(2), p(3), z(1)]],
+        (2, 0, 2) => vec![[p(1), p(2), z(1), z(2)]],
+        (1, 0, 3) => vec![[p(1), z(1), z(2), z(3)]],
+        (3, 1, 0) => vec![
+            [p(1), p(2), p(3), pm(3, 1)],
+            [p(1), p(2), pm(2, 1), pm(3, 1)],
+            [p(1), pm(1, 1), pm(2, 1), pm(3, 1)],
+        ],
+        (2, 2, 0) => vec![
+            [p(1), p(2), pm(2, 1), pm(2, 2)],
+            [p(1), pm(1, 1), pm(1, 2), pm(2, 2)],
+            [p(1), pm(1, 1), pm(2, 1), pm(2, 2)],
+        ],
+        (2, 1, 1) => vec![
+            [p(1), p(2), pm(2, 1), z(1)],
+            [p(1), pm(1, 1), pm(2, 1), z(1)],
+        ],
+        (1, 3, 0) => vec![[p(1), pm(1, 1), pm(1, 2), pm(1, 3)]],
+        (1, 2, 1) => vec![[p(1), pm(1, 1), pm(1, 2), z(1)]],
+        (1, 1, 2) => vec![[p(1), pm(1, 1), z(1), z(2)]],
+        _ => unreachable!("four labels"),
+    }
+}
+
+/// The id of a corner: p for a point, N+7p+d for a cut.
+pub fn id_of(lattice: &Lattice, corner: Corner) -> u32 {
+    match corner {
+        Corner::Point(point) => point as u32,
+        Corner::Cut(edge) => (lattice.point_count() + edge.offset()) as u32,
+    }
+}
+
+/// The place of a corner, with the moved points.
+pub fn place_of(lattice: &Lattice, cuts: &[u8], codes: &[u8], corner: Corner) -> Place {
+    match corner {
+        Corner::Point(point) => match edge_of_code(lattice, point, codes[point]) {
+            None => place_of_point(lattice, point),
+            Some((edge, _)) => place_of_cut(lattice, edge, cuts[edge.offset()]),
+        },
+        Corner::Cut(edge) => place_of_cut(lattice, edge, cuts[edge.offset()]),
+    }
+}

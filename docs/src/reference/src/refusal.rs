@@ -1,0 +1,28 @@
+//! The numbers of the refusals (document 01, "Calls and refusals").
+
+/// No refusal: the call was carried out.
+pub const NONE: u32 = 0;
+/// A size outside 1 to 64.
+pub const SIZE: u32 = 1;
+/// Not N samples.
+pub const SAMPLES: u32 = 2;
+/// Cut table not 7N bytes.
+pub const CUTS: u32 = 3;
+/// State table not N bytes.
+pub const STATE: u32 = 4;
+/// A rim point's sample is above zero.
+pub const RIM: u32 = 5;
+/// A cut byte is zero that must not be.
+pub const GAP: u32 = 6;
+/// A cut byte is non-zero that must be zero.
+pub const STRAY: u32 = 7;
+/// The id names no corner.
+pub const CORNER: u32 = 8;
+/// The point's state byte is not believable.
+pub const CODE: u32 = 9;
+/// The row table holds fewer than 4T numbers.
+pub const TABLE: u32 = 10;
+/// Malformed block file.
+pub const FILE: u32 = 11;
+/// A size of 6 to 64 in the bench program.
+pub const BENCH: u32 = 12;

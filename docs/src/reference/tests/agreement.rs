@@ -1,0 +1,180 @@
+//! The fast filling equals the plain one: on valid blocks with row tables too
+//! short, exact and too long, and on calls that must be refused. All lent
+//! tables are full of noise beforehand, and entries that must stay are looked
+//! at on their own.
+
+use reference::damage::{Call, Damage, Outcome, DAMAGES};
+use reference::fill::fill;
+use reference::generate::{any_block, block, CUTTINGS, MIXES};
+use reference::plain;
+use reference::random::Random;
+
+/// Makes the call with both fillings over the same noise.
+fn run_both(call: &Call, seed: u64) -> Outcome {
+    let fast = call.run(fill, &mut Random::new(seed));
+    let slow = call.run(plain::fill, &mut Random::new(seed));
+    assert_eq!(fast.filled, slow.filled, "seed {seed}");
+    assert!(fast == slow, "tables differ, seed {seed}");
+    check_untouched(call, &fast, seed);
+    fast
+}
+
+/// Entries that no row or code belongs in still hold the noise.
+fn check_untouched(call: &Call, outcome: &Outcome, seed: u64) {
+    let (state, rows) = call.noise(&mut Random::new(seed));
+    let filled = outcome.filled;
+    match filled.number {
+        0 => {
+            let behind = 4 * filled.rows as usize;
+            assert_eq!(rows[behind..], outcome.rows[behind..]);
+        }
+        10 => assert_eq!(rows, outcome.rows),
+        _ => {
+            assert_eq!(rows, outcome.rows);
+            assert_eq!(state, outcome.state);
+            assert_eq!((filled.rows, filled.moved), (0, 0));
+        }
+    }
+    if filled.number == 0 || filled.number == 10 {
+        let codes = outcome.state.iter().filter(|&&code| code != 0).count();
+        assert_eq!((filled.moved, filled.place), (codes as u64, 0));
+        assert!(outcome.state.iter().all(|&code| code <= 14));
+    }
+}
+
+/// Fills into an exact table, a longer and a shorter one.
+fn check_valid(call: &mut Call, random: &mut Random) {
+    let exact = call.row_length;
+    let outcome = run_both(call, random.bits());
+    assert_eq!(outcome.filled.number, 0);
+    assert_eq!(4 * outcome.filled.rows as usize, exact);
+    call.row_length = exact + random.pick(&[1, 3, 4, 17]);
+    assert_eq!(run_both(call, random.bits()).filled, outcome.filled);
+    if exact > 0 {
+        call.row_length = exact - 1;
+        let short = run_both(call, random.bits());
+        assert_eq!(short.filled.number, 10);
+        assert_eq!(short.filled.rows, outcome.filled.rows);
+        assert_eq!(short.filled.moved, outcome.filled.moved);
+        assert_eq!(short.state, outcome.state);
+    }
+}
+
+#[test]
+fn on_random_valid_blocks() {
+    let mut random = Random::new(1);
+    for _ in 0..3000 {
+        let mut call = Call::good(any_block(&mut random, 5), 0);
+        check_valid(&mut call, &mut random);
+    }
+}
+
+#[test]
+fn on_every_size_up_to_three() {
+    let mut random = Random::new(2);
+    for n in 0..27 {
+        let sizes = [n % 3 + 1, n / 3 % 3 + 1, n / 9 + 1];
+        for mix in MIXES {
+            for cutting in CUTTINGS {
+                let block = block(&mut random, sizes, mix, cutting);
+                check_valid(&mut Call::good(block, 0), &mut random);
+            }
+        }
+    }
+}
+
+#[test]
+fn on_long_blocks() {
+    let mut random = Random::new(3);
+    for sizes in [
+        [64, 4, 3],
+        [3, 64, 4],
+        [4, 3, 64],
+        [33, 7, 5],
+        [63, 3, 3],
+        [17, 16, 6],
+    ] {
+        for mix in MIXES {
+            let cutting = random.pick(&CUTTINGS);
+            let block = block(&mut random, sizes, mix, cutting);
+            check_valid(&mut Call::good(block, 0), &mut random);
+        }
+    }
+}
+
+#[test]
+fn on_every_damage() {
+    let mut random = Random::new(4);
+    let mut done = [0; DAMAGES.len()];
+    for n in 0..4000 {
+        let mut call = Call::good(any_block(&mut random, 5), 0);
+        let lattice = call.block.lattice().unwrap();
+        let damage = DAMAGES[n % DAMAGES.len()];
+        if call.damage(&mut random, &lattice, damage) {
+            let outcome = run_both(&call, random.bits());
+            assert_eq!(outcome.filled.number, damage.refusal(), "{damage:?}");
+            done[n % DAMAGES.len()] += 1;
+        }
+    }
+    assert!(done.iter().all(|&count| count > 200), "{done:?}");
+}
+
+#[test]
+fn on_several_damages_at_once() {
+    let mut random = Random::new(5);
+    let mut seen = [0; 11];
+    for _ in 0..4000 {
+        let mut call = Call::good(any_block(&mut random, 4), 0);
+        let lattice = call.block.lattice().unwrap();
+        let first = random.below(DAMAGES.len());
+        let mut done: Vec<Damage> = Vec::new();
+        for &damage in &DAMAGES[first..] {
+            let wanted = random.percent(60);
+            if wanted && call.damage(&mut random, &lattice, damage) {
+                done.push(damage);
+            }
+        }
+        let number = run_both(&call, random.bits()).filled.number;
+        seen[number as usize] += 1;
+        match done[..] {
+            [] => assert_eq!(number, 0),
+            [Damage::Gap, Damage::Stray, ..] => assert!(number == 6 || number == 7),
+            [first, ..] => assert_eq!(number, first.refusal(), "{done:?}"),
+        }
+    }
+    for number in [0, 1, 2, 3, 4, 5, 6, 7, 10] {
+        assert!(seen[number] > 50, "{seen:?}");
+    }
+}
+
+#[test]
+fn lowest_of_many_wrong_bytes_and_rim_points() {
+    let mut random = Random::new(6);
+    for n in 0..1000 {
+        let mut call = Call::good(any_block(&mut random, 4), 0);
+        let lattice = call.block.lattice().unwrap();
+        for _ in 0..1 + random.below(6) {
+            let damage = match n % 2 {
+                0 => random.pick(&[Damage::Gap, Damage::Stray]),
+                _ => Damage::Rim,
+            };
+            call.damage(&mut random, &lattice, damage);
+        }
+        run_both(&call, random.bits());
+    }
+}
+
+/// Where only the samples change, all kinds of wrong bytes arise.
+#[test]
+fn on_foreign_cut_tables() {
+    let mut random = Random::new(7);
+    for _ in 0..500 {
+        let sizes = [0; 3].map(|_| random.between(2, 4) as u32);
+        let mix = random.pick(&MIXES);
+        let other = random.pick(&MIXES);
+        let cutting = random.pick(&CUTTINGS);
+        let mut call = Call::good(block(&mut random, sizes, mix, cutting), 0);
+        call.block.cuts = block(&mut random, sizes, other, cutting).cuts;
+        run_both(&call, random.bits());
+    }
+}

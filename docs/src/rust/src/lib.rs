@@ -1,0 +1,136 @@
+//! Safe Rust calls over the static library: slices in, an enum out.
+//!
+//! The library has no preconditions, so nothing is tested here. Rust's borrow rules already keep
+//! the lent tables apart. Nothing checks these declarations against the library's source but the
+//! tests that compare its answers with separate software.
+
+/// The answers as the library gives them.
+pub mod raw {
+    /// The answer of `yakuemi_measures`.
+    #[repr(C)]
+    #[derive(Clone, Copy, Debug, PartialEq, Eq)]
+    pub struct Measures {
+        pub number: u32,
+        pub points: u64,
+        pub tetrahedra: u64,
+    }
+
+    /// The answer of `yakuemi_fill`.
+    #[repr(C)]
+    #[derive(Clone, Copy, Debug, PartialEq, Eq)]
+    pub struct Filled {
+        pub number: u32,
+        pub rows: u64,
+        pub moved: u64,
+        pub place: u64,
+    }
+
+    /// The answer of `yakuemi_place`.
+    #[repr(C)]
+    #[derive(Clone, Copy, Debug, PartialEq, Eq)]
+    pub struct Placed {
+        pub number: u32,
+        pub x: u32,
+        pub y: u32,
+        pub z: u32,
+    }
+
+    mod c {
+        use super::{Filled, Measures, Placed};
+
+        extern "C" {
+            pub fn yakuemi_measures(nx: u32, ny: u32, nz: u32) -> Measures;
+            #[allow(clippy::too_many_arguments)]
+            pub fn yakuemi_place(
+                nx: u32,
+                ny: u32,
+                nz: u32,
+                cuts: *const u8,
+                cuts_len: usize,
+                state: *const u8,
+                state_len: usize,
+                id: u32,
+            ) -> Placed;
+        }
+    }
+
+    /// Measures of a block.
+    pub fn measures(nx: u32, ny: u32, nz: u32) -> Measures {
+        unsafe { c::yakuemi_measures(nx, ny, nz) }
+    }
+
+    /// The place of an id.
+    pub fn place(sizes: [u32; 3], cuts: &[u8], state: &[u8], id: u32) -> Placed {
+        let [nx, ny, nz] = sizes;
+        unsafe { c::yakuemi_place(nx, ny, nz, cuts.as_ptr(), cuts.len(), state.as_ptr(), state.len(), id) }
+    }
+}
+
+/// Why a call was refused, with the numbers of document 01.
+#[derive(Clone, Copy, Debug, PartialEq, Eq)]
+pub enum Refusal {
+    /// 1: a size outside 1 to 64.
+    Size,
+    /// 2: not N samples.
+    Samples,
+    /// 3: the cut table has not 7N bytes.
+    Cuts,
+    /// 4: the state table has not N bytes.
+    State,
+    /// 5: this rim point's sample is above zero (the lowest such point).
+    Rim(u64),
+    /// 6: this byte of the cut table is zero and must not be.
+    Gap(u64),
+    /// 7: this byte of the cut table is not zero and must be.
+    Stray(u64),
+    /// 8: the id names no corner.
+    Corner,
+    /// 9: the point's state byte is not believable.
+    Code,
+    /// 10: the row table holds fewer than 4T numbers. The state table is filled.
+    Table { rows: u64, moved: u64 },
+    /// A number that the called function does not give.
+    Other(u32),
+}
+
+/// The measures of a block.
+#[derive(Clone, Copy, Debug, PartialEq, Eq)]
+pub struct Measures {
+    /// N, the count of lattice points.
+    pub points: u64,
+    /// The count of lattice tetrahedra.
+    pub tetrahedra: u64,
+}
+
+/// A filling: rows written and points moved.
+#[derive(Clone, Copy, Debug, PartialEq, Eq)]
+pub struct Filling {
+    /// T, the rows written: the first 4T entries of the row table.
+    pub rows: u64,
+    /// M, the points moved.
+    pub moved: u64,
+}
+
+/// N and the count of lattice tetrahedra.
+pub fn measures(sizes: [u32; 3]) -> Result<Measures, Refusal> {
+    let m = raw::measures(sizes[0], sizes[1], sizes[2]);
+    match m.number {
+        0 => Ok(Measures { points: m.points, tetrahedra: m.tetrahedra }),
+        1 => Err(Refusal::Size),
+        n => Err(Refusal::Other(n)),
+    }
+}
+
+/// The place of an id of a filled block, in 256ths of half a cube.
+pub fn place(sizes: [u32; 3], cuts: &[u8], state: &[u8], id: u32) -> Result<[u32; 3], Refusal> {
+    let p = raw::place(sizes, cuts, state, id);
+    match p.number {
+        0 => Ok([p.x, p.y, p.z]),
+        1 => Err(Refusal::Size),
+        3 => Err(Refusal::Cuts),
+        4 => Err(Refusal::State),
+        8 => Err(Refusal::Corner),
+        9 => Err(Refusal::Code),
+        n => Err(Refusal::Other(n)),
+    }
+}
