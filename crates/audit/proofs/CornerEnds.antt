@@ -20,6 +20,17 @@ use Rattle.audit.specs.Faults.{Asked}
 use Rattle.audit.proofs.Points.{stands, sited}
 use Rattle.audit.proofs.Reach.{Leads, leads, start, and-true, stride-none, stride-line, stride-layer, stride-both}
 
+-- a number among the centres is above the corners'
+pub down : (s : Sizes) (q : Site) → Sited s q → q .kind ≡ Corner → s .nx + 1 ≤ q .across
+unfolding cells
+down s q g k =
+    omega (
+      arith,
+      g .across-is ∙ ap (λ (l : Kind). number s (other l) (index q)) k,
+      mul-le-mul {n₁ = s .nx + 1} {m₁ = 1 * 1} {n₂ = s .nx + 1} {m₂ = (s .ny + 1) * (s .nz + 1)} (omega arith)
+          (mul-le-mul {n₁ = 1} {m₁ = 1} {n₂ = s .ny + 1} {m₂ = s .nz + 1} (omega arith) (omega arith)),
+    )
+
 module _ (s : Sizes) (samples : List ℤ) (q : Site) (a : Asked s samples q) (k : q .kind ≡ Corner) where
   g : Sited s q
   g = sited (stands s q (a .is) (a .below))
@@ -30,16 +41,8 @@ module _ (s : Sizes) (samples : List ℤ) (q : Site) (a : Asked s samples q) (k 
   across : q .across ≡ number s Centre (index q)
   across = g .across-is ∙ ap (λ (l : Kind). number s (other l) (index q)) k
 
-  -- a number among the centres is above the corners'
   pub far-down : s .nx + 1 ≤ q .across
-  unfolding cells
-  far-down =
-      omega (
-        arith,
-        across,
-        mul-le-mul {n₁ = s .nx + 1} {m₁ = 1 * 1} {n₂ = s .nx + 1} {m₂ = (s .ny + 1) * (s .nz + 1)} (omega arith)
-            (mul-le-mul {n₁ = 1} {m₁ = 1} {n₂ = s .ny + 1} {m₂ = s .nz + 1} (omega arith) (omega arith)),
-      )
+  far-down = down s q g k
 
   pub end-0 : Leads s q 1 (ltb (q .x) (s .nx)) (q .own + 1)
   unfolding farKind long directionOf isStart step direction directions shiftOf risen fallen

@@ -1,5 +1,5 @@
--- Decoded points in ascending number. Assumes nothing.
-use Prim.Native.Nat.{ℕ, _+_, _*_, _-_, _≤_, _<_}
+-- Decoded points, and what follows the last point of a line. Assumes nothing.
+use Prim.Native.Nat.{ℕ, _+_, _*_, _≤_, _<_}
 use native.Mathlib.Nat.{mul-add}
 use native.Mathlib.Omega.{arith}
 use mathlib.Core.Path.{_≡_, refl, sym, ap, subst, _∙_}
@@ -12,9 +12,8 @@ use Rattle.lattice.specs.Counts.{Sized, grid, cells, corners, points}
 use Rattle.lattice.specs.Point.{other, Inside, linear, number, kindOf, indexOf}
 use Rattle.lattice.specs.Edge.{near, neighbour}
 use Rattle.lattice.specs.Rim.{rimAt, rim}
-use Rattle.lattice.specs.Site.{oddOf, index, siteAt, siteOf, Sited}
+use Rattle.lattice.specs.Site.{index, siteAt, siteOf, Sited}
 use Rattle.lattice.proofs.Number.{number-lt, kind-number, index-number, number-of, inside-of}
-use Rattle.lattice.proofs.Sites.{own-grid, site-is}
 
 index-at : (s : Sizes) (k : Kind) (i : Axis → ℕ) (a : Axis) → index (siteAt s k i) a ≡ i a
 unfolding siteAt
@@ -68,7 +67,7 @@ module _ {s : Sizes} {p : ℕ} {q : Site} (w : Stands s p q) where
       made k i h =
           record { x-in = h along-x; y-in = h along-y; z-in = h along-z; own-is = same k i; across-is = same (other k) i }
 
--- the first point, and the next one
+-- there is a point
 pub points-some : (s : Sizes) → Sized s → 0 < points s
 points-some s h = omega (arith, number-lt s Centre (xyz 0 0 0) first)
   where
@@ -77,21 +76,11 @@ points-some s h = omega (arith, number-lt s Centre (xyz 0 0 0) first)
     first along-y = omega arith
     first along-z = omega arith
 
-pub stands-first : {s : Sizes} {q : Site} → q ≡ siteOf s 0 → 0 < points s → Stands s 0 q
-stands-first e h = record { is = e; below = h }
-
-pub stands-next : {s : Sizes} {p : ℕ} {q r : Site} → Stands s p q → r ≡ siteOf s (q .own + 1) → p + 1 < points s → Stands s (p + 1) r
-stands-next {s = s} w e h = record { is = e ∙ ap (λ (n : ℕ). siteOf s (n + 1)) (own-at w); below = h }
-
 pub stands : (s : Sizes) (q : Site) → q ≡ siteOf s (q .own) → q .own < points s → Stands s (q .own) q
 stands s q e h = record { is = e; below = h }
 
--- one cell on in a grid: in the line, to the next line, to the next layer, past the end
+-- one cell on from the end of a line: to the next line, to the next layer, past the end
 module _ (m : Axis → ℕ) (x y z : ℕ) where
-  ahead : linear m (xyz (x + 1) y z) ≡ linear m (xyz x y z) + 1
-  unfolding linear
-  ahead = omega arith
-
   next-line : x + 1 ≡ m along-x → linear m (xyz 0 (y + 1) z) ≡ linear m (xyz x y z) + 1
   unfolding linear
   next-line e =
@@ -112,10 +101,6 @@ module _ (m : Axis → ℕ) (x y z : ℕ) where
 
 -- the same for points
 module _ (s : Sizes) (x y z : ℕ) where
-  on : (k : Kind) → number s k (xyz (x + 1) y z) ≡ number s k (xyz x y z) + 1
-  on Corner = ahead (grid s Corner) x y z
-  on Centre = omega (arith, ahead (grid s Centre) x y z)
-
   on-line : (k : Kind) → x + 1 ≡ grid s k along-x → number s k (xyz 0 (y + 1) z) ≡ number s k (xyz x y z) + 1
   on-line Corner e = next-line (grid s Corner) x y z e
   on-line Centre e = omega (arith, next-line (grid s Centre) x y z e)
@@ -143,14 +128,6 @@ module _ (s : Sizes) (q : Site) (g : Sited s q) where
   inside k h i j along-y = i
   inside k h i j along-z = j
 
-  pub next-x : q .x + 1 < grid s (q .kind) along-x
-      → record { kind = q .kind; x = q .x + 1; y = q .y; z = q .z; own = q .own + 1; across = q .across + 1 } ≡ siteOf s (q .own + 1)
-  next-x h =
-      site-is s (q .kind) (q .x + 1) (q .y) (q .z) (q .own + 1) (q .across + 1)
-      (ap (λ (n : ℕ). n + 1) (g .own-is) ∙ sym (on s (q .x) (q .y) (q .z) (q .kind)))
-      (ap (λ (n : ℕ). n + 1) (g .across-is) ∙ sym (on s (q .x) (q .y) (q .z) (other (q .kind))))
-      ∙ at (q .kind) (xyz (q .x + 1) (q .y) (q .z)) (inside (q .kind) h (g .y-in) (g .z-in)) (on s (q .x) (q .y) (q .z) (q .kind))
-
   pub next-y : grid s (q .kind) along-x ≤ q .x + 1 → q .y + 1 < grid s (q .kind) along-y
       → siteAt s (q .kind) (xyz 0 (q .y + 1) (q .z)) ≡ siteOf s (q .own + 1)
   next-y l h =
@@ -169,24 +146,3 @@ module _ (s : Sizes) (q : Site) (g : Sited s q) where
       at Centre (xyz 0 0 0) (inside Centre (omega arith) (omega arith) (omega arith))
       (on-kind s (q .x) (q .y) (q .z) (q .kind) (omega (arith, g .x-in)) (omega (arith, g .y-in)) (omega (arith, g .z-in))
       (subst (λ (k : ℕ). k + 1 < points s) (g .own-is) h))
-
--- the same as the code tests it: a grid without asking for the kind
-module _ (s : Sizes) (q : Site) (g : Sited s q) (odd : ℕ) (o : odd ≡ oddOf (q .kind)) where
-  pub on-x : q .x + 1 < s .nx + 1 - odd
-      → record { kind = q .kind; x = q .x + 1; y = q .y; z = q .z; own = q .own + 1; across = q .across + 1 } ≡ siteOf s (q .own + 1)
-  on-x h = next-x s q g (omega (arith, own-grid (q .kind) (s .nx) odd o))
-
-  pub on-y : s .nx + 1 - odd ≤ q .x + 1 → q .y + 1 < s .ny + 1 - odd → siteAt s (q .kind) (xyz 0 (q .y + 1) (q .z)) ≡ siteOf s (q .own + 1)
-  on-y l h = next-y s q g (omega (arith, own-grid (q .kind) (s .nx) odd o)) (omega (arith, own-grid (q .kind) (s .ny) odd o))
-
-  pub on-z : s .nx + 1 - odd ≤ q .x + 1 → s .ny + 1 - odd ≤ q .y + 1 → q .z + 1 < s .nz + 1 - odd
-      → siteAt s (q .kind) (xyz 0 0 (q .z + 1)) ≡ siteOf s (q .own + 1)
-  on-z l m h =
-      next-z s q g (omega (arith, own-grid (q .kind) (s .nx) odd o)) (omega (arith, own-grid (q .kind) (s .ny) odd o))
-      (omega (arith, own-grid (q .kind) (s .nz) odd o))
-
-  pub on-centres : Sized s → s .nx + 1 - odd ≤ q .x + 1 → s .ny + 1 - odd ≤ q .y + 1 → s .nz + 1 - odd ≤ q .z + 1
-      → q .own + 1 < points s → siteAt s Centre (xyz 0 0 0) ≡ siteOf s (q .own + 1)
-  on-centres b l m n h =
-      next-kind s q g b (omega (arith, own-grid (q .kind) (s .nx) odd o)) (omega (arith, own-grid (q .kind) (s .ny) odd o))
-      (omega (arith, own-grid (q .kind) (s .nz) odd o)) h

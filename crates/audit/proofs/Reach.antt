@@ -154,14 +154,16 @@ ready {s = s} {q = q} a e l =
     ((omega (arith, a .long, a .below), omega (arith, a .long, points-small s (a .sized))), λ t. omega (arith, a .long, far-in (stands s q (a .is) (a .below)) e l t))
 
 -- the numbers that the code adds up are small
-pub numbers-fit : (s : Sizes) (samples : List ℤ) (q : Site) → Asked s samples q
+pub numbers-sited : (s : Sizes) (q : Site) → Sized s → Sited s q
     → (q .x ≤ 64) × (q .y ≤ 64) × (q .z ≤ 64) × (q .own ≤ 1000000) × (q .across ≤ 1000000) × ((s .nx + 1) * (s .ny + 1) ≤ 4225) × (s .nx * s .ny ≤ 4096) × (s .nx ≤ 64)
-numbers-fit s samples q a =
-    let b = a .sized in
-    let g = sited (stands s q (a .is) (a .below)) in
+numbers-sited s q b g =
     let i = site-small s q b g in
     let n = numbers-small s q b g in
     (omega arith, omega arith, omega arith, n .0, n .1, mul-le-mul {n₂ = 65} {m₂ = 65} (omega arith) (omega arith), mul-le-mul {n₂ = 64} {m₂ = 64} (b .x-high) (b .y-high), b .x-high)
+
+pub numbers-fit : (s : Sizes) (samples : List ℤ) (q : Site) → Asked s samples q
+    → (q .x ≤ 64) × (q .y ≤ 64) × (q .z ≤ 64) × (q .own ≤ 1000000) × (q .across ≤ 1000000) × ((s .nx + 1) * (s .ny + 1) ≤ 4225) × (s .nx * s .ny ≤ 4096) × (s .nx ≤ 64)
+numbers-fit s samples q a = numbers-sited s q (a .sized) (sited (stands s q (a .is) (a .below)))
 
 pub and-true : (b : Bool) → b ≡ (b && true)
 and-true true = refl

@@ -1,5 +1,5 @@
 -- Document 01, "Calls and refusals": refusals 6 and 7, and what the search for them answers.
-use Prim.Native.Nat.{ℕ, zero, suc, _+_, _*_, _<_}
+use Prim.Native.Nat.{ℕ, zero, suc, _+_, _*_, _/_, _%_, _<_}
 use mathlib.Core.Path.{_≡_}
 use mathlib.Core.Bool.{Bool, false}
 use mathlib.Core.List.{List, [], _∷_}
@@ -11,7 +11,7 @@ use Rattle.lattice.specs.declared.Sizes.{Sizes}
 use Rattle.lattice.specs.declared.Site.{Site}
 use Rattle.lattice.specs.Counts.{Sized, points}
 use Rattle.lattice.specs.Site.{siteOf}
-use Rattle.moving.specs.Block.{Block}
+use Rattle.moving.specs.Block.{Block, cutByte}
 use Rattle.filling.specs.Check.{crosses, cutFault, firstCut}
 use Rattle.audit.specs.declared.Fault.{Fault}
 use Rattle.audit.specs.declared.Fault.the-variants.{Fine, Gap, Stray}
@@ -51,6 +51,13 @@ module _ (must : ℕ → Bool) (byte : ℕ → ℕ) where
   unfoldable pub firstFault : ℕ → ℕ → Fault
   firstFault zero o = Fine
   firstFault (suc n) o = orElse (faultAt o (must o) (byte o)) (firstFault n (o + 1))
+
+-- the same of a block's cut table: the bytes of edges that cross the skin must be non-zero
+abbrev pub mustAt : Block → ℕ → Bool
+mustAt b o = crosses b (o / 7) (o % 7)
+
+abbrev pub tableFault : Block → ℕ → ℕ → Fault
+tableFault b = firstFault (mustAt b) (cutByte b)
 
 -- the same of the seven bytes of one point
 abbrev pub sevenFault : List Bool → List ℕ → Fault

@@ -1,6 +1,8 @@
 // What keeps a block from being filled: a rim point that is above zero, a cut byte that is missing
 // or too many.
+pub mod crossing;
 pub mod cuts;
+pub mod quiet;
 pub mod rim;
 pub mod seven;
 pub mod signs;

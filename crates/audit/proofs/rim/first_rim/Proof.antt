@@ -1,21 +1,22 @@
--- The loop's invariant: q is the point p, and the search from p on finds what the whole search finds. Assumes nothing.
+-- The loop's invariant: q starts the line at p, and the search from p on finds what the whole search finds. Assumes nothing.
 use Prim.Native.Nat.{_+_, _-_, _≤_, _<_}
 use native.Mathlib.Omega.{arith}
-use mathlib.Core.Path.{_≡_, sym, _∙_}
-use mathlib.Core.Logic.{⊎-elim}
+use mathlib.Core.Path.{_≡_, _∙_}
 use Rattle.basics.specs.Lists.{firstFrom, lowest}
 use Rattle.lattice.proofs.Bounds.{points-small}
-use Rattle.audit.proofs.Labels.{plus-handed}
-use Rattle.audit.proofs.Steps.{search-hit, search-miss, search-all}
-use Rattle.audit.proofs.Points.{Stands, points-some, stands-first, stands-next, sited, own-site, own-at, rim-at}
-use Rattle.audit.proofs.Outside.{outside, above, not-above, within, lowest-rim, none-outside}
+use Rattle.audit.specs.Lines.{Line}
+use Rattle.audit.specs.Outside.{outside}
+use Rattle.audit.proofs.Steps.{search-all}
+use Rattle.audit.proofs.Points.{points-some}
+use Rattle.audit.proofs.Lines.{line-own, line-fits, line-self, line-on, line-first}
+use Rattle.audit.proofs.Outside.{line-hit, line-miss, lowest-rim, none-outside}
 use borrow.Author.Needs.{needs}
 use Rattle.audit.proofs.rim.first_rim.Statement.{statement}
 use Rattle.audit.proofs.rim.first_rim.Tie as tie
 
 abbrev Inv-loop : tie.InvT-loop
 Inv-loop s samples n q₀ p₀ q p =
-    (p ≤ n) × (p < n → Stands s p q) × (firstFrom (outside s samples) (n - p) p ≡ lowest (outside s samples) n)
+    (p ≤ n) × (p < n → Line s p q) × (firstFrom (outside s samples) (n - p) p ≡ lowest (outside s samples) n)
 
 abbrev μ-loop : tie.MeasureT-loop
 μ-loop s samples n q₀ p₀ q p = n - p
@@ -27,66 +28,70 @@ locate-requires : tie.Need-locate-requires Inv-loop μ-loop
 locate-requires c κs = (c .before .pre .0, points-some _ (c .before .pre .0))
 
 loop-holds : tie.Need-loop-holds Inv-loop μ-loop
-loop-holds c = (omega arith, (λ h. stands-first (c .locate .ensures) (points-some _ (c .before .before .pre .0))), search-all _ _)
+loop-holds c = (omega arith, (λ h. line-first (c .before .before .pre .0) (c .locate .ensures)), search-all _ _)
 
-is-rim-requires : tie.Need-is-rim-requires Inv-loop μ-loop
-is-rim-requires c κs = (c .before .before .before .before .pre .0, sited (c .before .loop .inv .1 (c .loop-test .taken)))
+line-rim-requires : tie.Need-line-rim-requires Inv-loop μ-loop
+line-rim-requires c κs =
+    let c4 = c .before .before .before .before in
+    (c4 .pre .0, (c4 .pre .1, line-self (c .before .loop .inv .1 (c .loop-test .taken))))
 
-mul-is-plus : tie.Need-mul-is-plus Inv-loop μ-loop
-mul-is-plus c = let a = c .before .before .before .before .before .before in omega (arith, points-small (a .args .s) (a .pre .0))
+line-length-requires : tie.Need-line-length-requires Inv-loop μ-loop
+line-length-requires c κs = c .before .before .before .before .before .pre .0
 
-shared-slice-copy-out-is-plus : tie.Need-shared-slice-copy-out-is-plus Inv-loop μ-loop
-shared-slice-copy-out-is-plus c = omega arith
-
-is-plus-requires : tie.Need-is-plus-requires Inv-loop μ-loop
-is-plus-requires c κs = search needs
+add-p : tie.Need-add-p Inv-loop μ-loop
+add-p c =
+    let c5 = c .before .before .before .before .before in
+    let c6 = c5 .before in
+    let n = points-small (c6 .args .s) (c6 .pre .0) in let e = c .line-length .ensures .1 in omega (arith, c5 .point-count .ensures)
 
 returns : tie.Need-returns Inv-loop μ-loop
 returns c =
-    let l = c .before .before .before .before .before in
-    let w = l .before .loop .inv .1 (l .loop-test .taken) in
-    lowest-rim _ _ _ _ (l .before .before .before .point-count .ensures) (l .before .loop .inv .2)
-    (search-hit _ _ _ (l .loop-test .taken)
-    (above _ _ _ (sym (rim-at w) ∙ sym (c .before .before .before .before .is-rim .ensures) ∙ c .before .before .before .if1 .taken)
-    (sym (plus-handed _ (c .before .before .is-plus-arg .given)) ∙ sym (c .before .is-plus .ensures) ∙ c .if2 .taken)))
+    let c4 = c .before .before .before .before in
+    let c6 = c4 .before .before in
+    let c7 = c6 .before in
+    lowest-rim (c7 .args .s) (c7 .args .samples .now) _ _ _ (c6 .point-count .ensures) (c4 .loop .inv .2) (line-hit (c7 .args .s) (c7 .args .samples .now) (c4 .loop .inv .1 (c .before .before .before .loop-test .taken)) (c7 .pre .0) _ _ (c6 .point-count .ensures) (c .before .line-length .ensures .0) (c .before .before .line-rim .ensures) (c .if1 .taken))
 
-add-if3 : tie.Need-add-if3 Inv-loop μ-loop
-add-if3 c = let a = c .before .before .before .before .before .before in omega (arith, points-small (a .args .s) (a .pre .0))
-
-next-site-requires : tie.Need-next-site-requires Inv-loop μ-loop
-next-site-requires c κs =
-    let l = c .before .before .before in
-    let w = l .before .loop .inv .1 (l .loop-test .taken) in
-    (l .before .before .before .before .pre .0, (own-site w, omega (arith, own-at w)))
-
-add-p : tie.Need-add-p Inv-loop μ-loop
-add-p c = let a = c .before .before .before .before .before .before .before in omega (arith, points-small (a .args .s) (a .pre .0))
+next-line-requires : tie.Need-next-line-requires Inv-loop μ-loop
+next-line-requires c κs =
+    let c4 = c .before .before .before .before in
+    let c5 = c4 .before in
+    let c7 = c5 .before .before in
+    let c8 = c7 .before in
+    let l = (c5 .loop .inv .1 (c4 .loop-test .taken)) in
+    let e = c .before .before .line-length .ensures .0 in
+    (c8 .pre .0, (line-self l, omega (arith, line-own l, c7 .point-count .ensures)))
 
 loop-less : tie.Need-loop-less Inv-loop μ-loop
-loop-less c = omega arith
+loop-less c = let e = c .before .before .before .line-length .ensures .1 in omega arith
 
 loop-again : tie.Need-loop-again Inv-loop μ-loop
 loop-again c =
-    let l = c .before .before .before in
-    let w = l .before .loop .inv .1 (l .loop-test .taken) in (
-      omega arith,
-      (λ h. ⊎-elim
-          (λ v. stands-next w (v .2 ∙ v .1 .ensures) (omega arith))
-          (λ v. absurd (omega arith))
-          (c .if3 .came)),
-      search-miss _ _ _ (l .loop-test .taken)
-          (⊎-elim
-          (λ v. not-above _ _ _ (sym (rim-at w) ∙ sym (c .before .before .is-rim .ensures) ∙ v .0 .taken)
-          (sym (plus-handed _ (v .1 .given)) ∙ sym (v .2 .ensures) ∙ v .3 .left))
-          (λ v. within _ _ _ (sym (rim-at w) ∙ sym (c .before .before .is-rim .ensures) ∙ v .left))
-          (c .before .if1 .came))
-          ∙ l .before .loop .inv .2,
-    )
+    let c4 = c .before .before .before .before in
+    let c5 = c4 .before in
+    let c6 = c5 .before in
+    let c8 = c6 .before .before in
+    let c9 = c8 .before in
+    let l = (c6 .loop .inv .1 (c5 .loop-test .taken)) in
+    (omega arith, (λ h. line-on l (c .before .before .before .line-length .ensures .0) (c .next-line .ensures)), line-miss (c9 .args .s) (c9 .args .samples .now) l (c9 .pre .0) _ _ (c8 .point-count .ensures) (c .before .before .before .line-length .ensures .0) (c4 .line-rim .ensures) (c .before .before .if1 .left) ∙ c6 .loop .inv .2)
+
+loop-less-2 : tie.Need-loop-less-2 Inv-loop μ-loop
+loop-less-2 c = let e = c .before .before .line-length .ensures .1 in omega arith
+
+loop-again-2 : tie.Need-loop-again-2 Inv-loop μ-loop
+loop-again-2 c =
+    let c4 = c .before .before .before .before in
+    let c5 = c4 .before in
+    let c7 = c5 .before .before in
+    let c8 = c7 .before in
+    let l = (c5 .loop .inv .1 (c4 .loop-test .taken)) in
+    let f = line-fits l (c8 .pre .0) in
+    let e = c .before .before .line-length .ensures .0 in
+    (omega (arith, c7 .point-count .ensures), (λ h. absurd (omega arith)), line-miss (c8 .args .s) (c8 .args .samples .now) l (c8 .pre .0) _ _ (c7 .point-count .ensures) (c .before .before .line-length .ensures .0) (c .before .before .before .line-rim .ensures) (c .before .if1 .left) ∙ c5 .loop .inv .2)
 
 returns-2 : tie.Need-returns-2 Inv-loop μ-loop
 returns-2 c =
-    let i = c .before .loop .inv in
-    none-outside _ _ _ _ (c .before .before .before .point-count .ensures) (i .2) (i .0) (c .loop-test .left)
+    let c4 = c .before .before .before .before in
+    none-outside (c4 .args .s) (c4 .args .samples .now) _ _ (c .before .before .before .point-count .ensures) (c .before .loop .inv .2) (c .before .loop .inv .0) (c .loop-test .left)
 
 pub first-rim-spec : {M : Type 1} → statement M
 first-rim-spec =
@@ -97,14 +102,13 @@ first-rim-spec =
     point-count-requires
     locate-requires
     loop-holds
-    is-rim-requires
-    mul-is-plus
-    shared-slice-copy-out-is-plus
-    is-plus-requires
-    returns
-    add-if3
-    next-site-requires
+    line-rim-requires
+    line-length-requires
     add-p
+    returns
+    next-line-requires
     loop-less
     loop-again
+    loop-less-2
+    loop-again-2
     returns-2)

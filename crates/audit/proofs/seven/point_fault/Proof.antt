@@ -27,21 +27,23 @@ shared-slice-read-if2 : tie.Need-shared-slice-read-if2 Inv-loop μ-loop
 shared-slice-read-if2 c = omega arith
 
 returns : tie.Need-returns Inv-loop μ-loop
-returns c = (
-  fault-over _ _ 7 _ (c .before .before .before .loop-test .taken) (gap-at _ _ (c .if2 .taken) (c .before .before .if1 .taken))
-      ∙ c .before .before .before .before .loop .inv .1,
-  omega arith,
-)
+returns c =
+    let c4 = c .before .before .before .before in (
+      fault-over _ _ 7 _ (c .before .before .before .loop-test .taken) (gap-at _ _ (c .if2 .taken) (c .before .before .if1 .taken))
+          ∙ c4 .loop .inv .1,
+      omega arith,
+    )
 
 shared-slice-read-if3 : tie.Need-shared-slice-read-if3 Inv-loop μ-loop
 shared-slice-read-if3 c = omega arith
 
 returns-2 : tie.Need-returns-2 Inv-loop μ-loop
-returns-2 c = (
-  fault-over _ _ 7 _ (c .before .before .before .loop-test .taken) (stray-at _ _ (c .if3 .taken) (c .before .before .if1 .left))
-      ∙ c .before .before .before .before .loop .inv .1,
-  omega arith,
-)
+returns-2 c =
+    let c4 = c .before .before .before .before in (
+      fault-over _ _ 7 _ (c .before .before .before .loop-test .taken) (stray-at _ _ (c .if3 .taken) (c .before .before .if1 .left))
+          ∙ c4 .loop .inv .1,
+      omega arith,
+    )
 
 add-d : tie.Need-add-d Inv-loop μ-loop
 add-d c = omega arith

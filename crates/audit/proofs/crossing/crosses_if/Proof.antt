@@ -3,8 +3,8 @@ use native.Mathlib.Omega.{arith}
 use mathlib.Core.Path.{_∙_}
 use Rattle.audit.proofs.Labels.{opposed-handed}
 use borrow.Author.Needs.{needs}
-use Rattle.audit.proofs.cuts.crosses_if.Statement.{statement}
-use Rattle.audit.proofs.cuts.crosses_if.Tie as tie
+use Rattle.audit.proofs.crossing.crosses_if.Statement.{statement}
+use Rattle.audit.proofs.crossing.crosses_if.Tie as tie
 
 mul-opposite : tie.Need-mul-opposite
 mul-opposite c = search needs

@@ -1,0 +1,38 @@
+-- Points all of whose seven far ends are in the block, and the numbers of those ends, as the code computes them.
+use Prim.Native.Nat.{ℕ, _+_, _*_, _-_, _<_}
+use mathlib.Core.List.{List, [], _∷_}
+use Rattle.lattice.specs.declared.Sizes.{Sizes}
+use Rattle.lattice.specs.declared.Kind.{Kind}
+use Rattle.lattice.specs.declared.Kind.the-variants.{Corner, Centre}
+use Rattle.lattice.specs.declared.Site.{Site}
+use Rattle.lattice.specs.Site.{oddOf}
+
+pub record Inner (s : Sizes) (q : Site) : Type 0 where
+  pub x-low : 0 < q .x
+  pub x-high : q .x + oddOf (q .kind) < s .nx
+  pub y-low : 0 < q .y
+  pub y-high : q .y + oddOf (q .kind) < s .ny
+  pub z-high : q .z + oddOf (q .kind) < s .nz
+
+abbrev pub endsOf : Kind → Sizes → Site → List ℕ
+endsOf Corner s q =
+    (q .own + 1)
+    ∷ (q .own + (s .nx + 1))
+    ∷ (q .own + (s .nx + 1) * (s .ny + 1))
+    ∷ (q .across)
+    ∷ (q .across - 1)
+    ∷ (q .across - s .nx)
+    ∷ (q .across - (s .nx + 1))
+    ∷ []
+endsOf Centre s q =
+    (q .own + 1)
+    ∷ (q .own + s .nx)
+    ∷ (q .own + s .nx * s .ny)
+    ∷ (q .across + (s .nx + 1) * (s .ny + 1) + (s .nx + 1) + 1)
+    ∷ (q .across + (s .nx + 1) * (s .ny + 1) + (s .nx + 1))
+    ∷ (q .across + (s .nx + 1) * (s .ny + 1) + 1)
+    ∷ (q .across + (s .nx + 1) * (s .ny + 1))
+    ∷ []
+
+unfoldable pub endsAt : Sizes → Site → List ℕ
+endsAt s q = endsOf (q .kind) s q
