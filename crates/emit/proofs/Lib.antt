@@ -9,3 +9,4 @@ pub mod Numbers
 pub mod Patterns
 pub mod Ids
 pub mod Table
+pub mod Oriented
