@@ -45,6 +45,7 @@ fn weigh(samples: &[i16], state: &[u8], p: usize) -> usize
     weight_of(samples[p])
 }
 
+// The weights of the six points, each read once for all four tetrahedra.
 fn weigh_cube(samples: &[i16], state: &[u8], c: Cube) -> CubeWeights
     requires { ⌜ KnownCube (length (now samples)) c ⌝ }
     requires { ⌜ length (now state) ≡ length (now samples) ⌝ }
@@ -107,6 +108,7 @@ fn quarter(c: Cube, e: usize) -> Tetra
     }
 }
 
+// The weights of its four corners.
 fn quarter_weights(w: CubeWeights, e: usize) -> Weights
     ensures { λ r. ⌜ r ≡ quarterWeights w e ⌝ }
 {
@@ -189,6 +191,8 @@ fn winding(e: usize) -> bool
     }
 }
 
+// The rows of the four tetrahedra between a cube and the next one, from an index on; the index after
+// them.
 pub fn write_cube(
     rows: &mut [u32],
     at: usize,

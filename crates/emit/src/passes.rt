@@ -61,6 +61,7 @@ fn write_run(
     to
 }
 
+// The cubes of one line: its first corner and centre, and from there by strides.
 fn write_line(
     rows: &mut [u32],
     at: usize,
@@ -86,6 +87,7 @@ fn write_line(
     write_run(rows, at, p.n, samples, state, step, corner, centre, p.mx)
 }
 
+// The lines of one layer.
 fn write_layer(
     rows: &mut [u32],
     at: usize,
@@ -109,6 +111,7 @@ fn write_layer(
     to
 }
 
+// The layers of one axis.
 fn write_pass(rows: &mut [u32], at: usize, samples: &[i16], state: &[u8], p: Pass) -> usize
     requires { ⌜ InPass p ⌝ }
     requires { ⌜ Tables p (now samples) (now state) ⌝ }

@@ -1,3 +1,4 @@
+-- The table of the code holds the start and the direction of every cut of every kind of tetrahedron: one computed test. Assumes nothing.
 use Rattle.emit.proofs.CornerLaws.{cut-is}
 use Rattle.emit.proofs.CutTable.{cuts}
 use Rattle.emit.specs.declared.Corner.the-variants.{Edge}
@@ -6,47 +7,34 @@ use Prim.Native.Nat.{ℕ}
 use borrow.Author.Needs.{needs}
 use Rattle.emit.proofs.corners.cut.Statement.{statement}
 use Rattle.emit.proofs.corners.cut.Tie as tie
-use Rattle.emit.proofs.corners.cut.Reads as reads
-use Rattle.emit.proofs.corners.cut.Lts as lts
-use Rattle.emit.proofs.corners.number_at.Reads as number-at-reads
 
--- src/corners.rt:283:23
 mul-packed : tie.Need-mul-packed
 mul-packed c = search needs
 
--- src/corners.rt:283:38
 mul-packed-2 : tie.Need-mul-packed-2
 mul-packed-2 c = search needs
 
--- src/corners.rt:283:53
 mul-packed-3 : tie.Need-mul-packed-3
 mul-packed-3 c = search needs
 
--- src/corners.rt:283:53
 add-packed : tie.Need-add-packed
 add-packed c = search needs
 
--- src/corners.rt:283:38
 add-packed-2 : tie.Need-add-packed-2
 add-packed-2 c = search needs
 
--- src/corners.rt:283:23
 add-packed-3 : tie.Need-add-packed-3
 add-packed-3 c = search needs
 
--- src/corners.rt:283:18
 mul-packed-4 : tie.Need-mul-packed-4
 mul-packed-4 c = search needs
 
--- src/corners.rt:283:18
 array-read-packed : tie.Need-array-read-packed
 array-read-packed c = search needs
 
--- src/corners.rt:284:18
 number-at-requires : tie.Need-number-at-requires
 number-at-requires c κs = search needs
 
--- src/corners.rt:278:1
 returns : tie.Need-returns
 unfolding cuts
 returns c = let a = c .before .before .before in cut-is (a .args .t) (a .args .u) (a .args .v) _ (a .pre .0) (a .pre .1 .0) (a .pre .1 .1) (c .number-at .ensures)

@@ -1,3 +1,4 @@
+-- The corners of a tetrahedron of the turn, ascending. Assumes nothing.
 use Rattle.emit.proofs.CubeLaws.{last-quarter}
 use Rattle.emit.specs.Cubes.{quarterOf}
 use mathlib.Core.Path.{sym, ap}

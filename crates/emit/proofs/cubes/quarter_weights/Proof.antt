@@ -1,3 +1,4 @@
+-- Their weights, in the same order. Assumes nothing.
 use Rattle.emit.proofs.CubeLaws.{last-weights}
 use Rattle.emit.specs.Cubes.{quarterWeights}
 use mathlib.Core.Path.{sym, ap}

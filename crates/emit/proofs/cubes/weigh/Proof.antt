@@ -1,3 +1,4 @@
+-- A moved point weighs nothing, any other what its sample's sign weighs. Assumes nothing.
 use Rattle.emit.proofs.WeightLaws.{weight-moved, weight-still}
 use native.Mathlib.Omega.{arith}
 use borrow.Author.Needs.{needs}

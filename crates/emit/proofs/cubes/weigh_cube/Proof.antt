@@ -1,3 +1,4 @@
+-- Six weights, each read once. Assumes nothing.
 use Rattle.emit.specs.Cubes.{cubeWeights}
 use native.Mathlib.Omega.{arith}
 use borrow.Author.Needs.{needs}

@@ -1,3 +1,4 @@
+-- 5 for plus, 1 for minus, 0 for zero. Assumes nothing.
 use Rattle.emit.proofs.WeightLaws.{weight-plus, weight-minus, weight-zero}
 use native.Mathlib.Omega.{arith}
 use borrow.Author.Needs.{needs}

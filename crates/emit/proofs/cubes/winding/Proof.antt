@@ -1,3 +1,4 @@
+-- The sign of a signed triple product, computed for each edge of the turn. Assumes nothing.
 use Rattle.emit.proofs.CubeLaws.{last-winds}
 use Rattle.emit.specs.Corners.{quarterAt}
 use Rattle.stencil.proofs.Sign.{winds}

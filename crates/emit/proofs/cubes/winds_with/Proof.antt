@@ -1,3 +1,4 @@
+-- The sign of the six-volume that is handed in. Assumes nothing.
 use Rattle.places.proofs.Box.{result-is}
 use lib.Signed.{ltZ}
 use lib.IntN.{ℤ, pos}

@@ -1,3 +1,4 @@
+-- Four tetrahedra, one after the other: what is written so far is what the edges so far give. Assumes nothing.
 use Rattle.emit.proofs.Written.{same-ids}
 use Rattle.emit.proofs.CubeLaws.{known-as, edge-is, edge-known, edge-small, edge-most, cube-as, cube-room}
 use Rattle.emit.proofs.Written.{Written, none-written, more-written, room-left, index-most, kept-long, all-written}

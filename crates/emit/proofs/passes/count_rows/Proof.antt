@@ -1,3 +1,4 @@
+-- Written into an empty table the rows are only counted; four numbers a row. Assumes nothing.
 use Rattle.emit.proofs.Table.{count-is}
 use native.Mathlib.Omega.{arith}
 use borrow.Author.Needs.{needs}

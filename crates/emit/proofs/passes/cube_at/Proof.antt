@@ -1,3 +1,4 @@
+-- Six points, each by its stride. Assumes nothing.
 use Rattle.emit.specs.Passes.{movedCube}
 use mathlib.Core.Path.{refl}
 use native.Mathlib.Omega.{arith}

@@ -1,3 +1,4 @@
+-- The strides along each axis, and how many cubes have a next one. Assumes nothing.
 use Rattle.emit.proofs.PassLaws.{layer-small, last-axis, along-x-is, along-y-is, along-z-is}
 use Rattle.emit.specs.Corners.{axisAt}
 use mathlib.Core.Path.{sym, ap, _∙_}

@@ -1,3 +1,4 @@
+-- The strides add up. Assumes nothing.
 use Rattle.emit.specs.Passes.{stepBy}
 use mathlib.Core.Path.{refl}
 use native.Mathlib.Omega.{arith}

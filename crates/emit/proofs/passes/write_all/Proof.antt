@@ -1,3 +1,4 @@
+-- The three passes, one after the other. Assumes nothing.
 use Rattle.emit.proofs.PassLaws.{pass-at-is, pass-ready, block-is}
 use Rattle.emit.proofs.Written.{none-written, more-written, all-written, same-ids}
 use native.Mathlib.Omega.{arith}

@@ -1,3 +1,4 @@
+-- Lines, one after the other. Assumes nothing.
 use Rattle.emit.proofs.PassLaws.{line-most}
 use Rattle.emit.proofs.Written.{Written, none-written, more-written, room-left, index-most, kept-long, all-written}
 use Rattle.emit.specs.Passes.{lineIds, layerIds, lineMost}

@@ -1,3 +1,4 @@
+-- A line is a run from its first cube on. Assumes nothing.
 use Rattle.lattice.proofs.Bounds.{corners-small}
 use Rattle.emit.proofs.Written.{same-ids}
 use Rattle.emit.proofs.PassLaws.{line-known, line-is, line-room}

@@ -1,3 +1,4 @@
+-- Layers, one after the other. Assumes nothing.
 use Rattle.emit.proofs.PassLaws.{layer-most}
 use Rattle.emit.proofs.Written.{Written, none-written, more-written, room-left, index-most, kept-long, all-written}
 use Rattle.emit.specs.Passes.{layerIds, passIds, layerMost}

@@ -1,3 +1,4 @@
+-- The rows over the first entries of the table. Assumes nothing.
 use Rattle.emit.proofs.Table.{write-room, overwritten-is}
 use native.Mathlib.Omega.{arith}
 use borrow.Author.Needs.{needs}

@@ -1,3 +1,4 @@
+-- Cubes, one after the other along x. Assumes nothing.
 use Rattle.emit.proofs.PassLaws.{run-from, run-within, run-known, placed-is, placed-most}
 use Rattle.emit.proofs.Written.{Written, none-written, more-written, room-left, index-most, kept-long, all-written}
 use Rattle.emit.specs.Passes.{placedIds, runIds}

@@ -1,17 +1,14 @@
+-- One pair of corners. Assumes nothing.
 use Rattle.emit.specs.Picks.{inversion}
 use borrow.Author.Tests.{lt-ltb, le-ltb}
 use native.Mathlib.Omega.{arith}
 use Rattle.emit.proofs.picks.inverted.Statement.{statement}
 use Rattle.emit.proofs.picks.inverted.Tie as tie
-use Rattle.emit.proofs.picks.inverted.Reads as reads
-use Rattle.emit.proofs.picks.inverted.Lts as lts
 
--- src/picks.rt:47:1
 returns : tie.Need-returns
 unfolding inversion
 returns c = (simp (lt-ltb _ _ (c .if1 .taken)), omega arith)
 
--- src/picks.rt:47:1
 returns-2 : tie.Need-returns-2
 unfolding inversion
 returns-2 c = (simp (le-ltb _ _ (c .if1 .left)), omega arith)

@@ -1,56 +1,42 @@
+-- Six pairs of corners, counted. Assumes nothing.
 use Rattle.emit.specs.Picks.{isEven}
 use borrow.Author.Needs.{needs}
 use Rattle.emit.proofs.picks.is_even.Statement.{statement}
 use Rattle.emit.proofs.picks.is_even.Tie as tie
-use Rattle.emit.proofs.picks.is_even.Reads as reads
-use Rattle.emit.proofs.picks.is_even.Lts as lts
-use Rattle.emit.proofs.picks.inverted.Reads as inverted-reads
 
--- src/picks.rt:58:17
 inverted-requires : tie.Need-inverted-requires
 inverted-requires c κs = search needs
 
--- src/picks.rt:58:38
 inverted-requires-2 : tie.Need-inverted-requires-2
 inverted-requires-2 c κs = search needs
 
--- src/picks.rt:58:17
 add-first : tie.Need-add-first
 add-first c = search needs
 
--- src/picks.rt:58:59
 inverted-requires-3 : tie.Need-inverted-requires-3
 inverted-requires-3 c κs = search needs
 
--- src/picks.rt:58:17
 add-first-2 : tie.Need-add-first-2
 add-first-2 c = search needs
 
--- src/picks.rt:59:16
 inverted-requires-4 : tie.Need-inverted-requires-4
 inverted-requires-4 c κs = search needs
 
--- src/picks.rt:59:37
 inverted-requires-5 : tie.Need-inverted-requires-5
 inverted-requires-5 c κs = search needs
 
--- src/picks.rt:59:16
 add-rest : tie.Need-add-rest
 add-rest c = search needs
 
--- src/picks.rt:59:58
 inverted-requires-6 : tie.Need-inverted-requires-6
 inverted-requires-6 c κs = search needs
 
--- src/picks.rt:59:16
 add-rest-2 : tie.Need-add-rest-2
 add-rest-2 c = search needs
 
--- src/picks.rt:60:6
 add-result : tie.Need-add-result
 add-result c = search needs
 
--- src/picks.rt:55:1
 returns : tie.Need-returns
 unfolding isEven
 returns c = cc

@@ -1,15 +1,12 @@
+-- A corner before the rest, if it is taken. Assumes nothing.
 use Rattle.emit.specs.Picks.{picked}
 use Rattle.emit.proofs.picks.pick.Statement.{statement}
 use Rattle.emit.proofs.picks.pick.Tie as tie
-use Rattle.emit.proofs.picks.pick.Reads as reads
-use Rattle.emit.proofs.picks.pick.Lts as lts
 
--- src/picks.rt:12:9
 returns : tie.Need-returns
 unfolding picked
 returns c = simp (c .if1 .taken)
 
--- src/picks.rt:8:1
 returns-2 : tie.Need-returns-2
 unfolding picked
 returns-2 c = simp (c .if1 .left)

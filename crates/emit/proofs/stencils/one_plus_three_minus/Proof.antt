@@ -1,3 +1,4 @@
+-- The line +--- of document 01's table. Assumes nothing.
 use Rattle.emit.specs.Stencils.{lines}
 use native.Mathlib.Omega.{arith}
 use borrow.Author.Needs.{needs}

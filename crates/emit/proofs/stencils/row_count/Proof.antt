@@ -1,3 +1,4 @@
+-- How many rows each line of the table has. Assumes nothing.
 use Rattle.emit.proofs.StencilLaws.{count-one}
 use Rattle.emit.specs.Stencils.{rowCount}
 use Rattle.stencil.specs.Stencil.{stencilOf}

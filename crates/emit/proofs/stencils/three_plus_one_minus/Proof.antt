@@ -1,3 +1,4 @@
+-- The line +++- of document 01's table. Assumes nothing.
 use mathlib.Core.Bool.{not}
 use Rattle.emit.proofs.StencilLaws.{row-is}
 use mathlib.Core.List.{[], _∷_}

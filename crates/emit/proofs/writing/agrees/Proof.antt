@@ -1,3 +1,4 @@
+-- Two flags are equal. Assumes nothing.
 use Rattle.emit.proofs.StencilLaws.{beq-true, beq-false}
 use native.Mathlib.Omega.{arith}
 use borrow.Author.Needs.{needs}

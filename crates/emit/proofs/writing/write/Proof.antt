@@ -1,3 +1,4 @@
+-- One, two or three rows, one after the other. Assumes nothing.
 use Rattle.emit.proofs.StencilLaws.{first-known, rest-known, one-row, then-rows}
 use Rattle.emit.specs.Stencils.{allIds}
 use Rattle.basics.specs.Lists.{gather}

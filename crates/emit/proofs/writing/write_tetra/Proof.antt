@@ -1,3 +1,4 @@
+-- Nothing without a plus; counted into an empty table; else the rows of the pattern. Assumes nothing.
 use Rattle.emit.proofs.StencilLaws.{none-for, counted-for, in-order, known-for, room-for, written-for}
 use Rattle.emit.specs.Picks.{sum}
 use native.Mathlib.Omega.{arith}
