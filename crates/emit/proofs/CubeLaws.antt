@@ -1,12 +1,17 @@
 -- Laws of the tetrahedra between a cube and the next one along an axis. Assumes nothing.
 use Prim.Native.Nat.{ℕ, zero, suc, _+_, _*_, _≤_, _<_}
 use native.Mathlib.Omega.{arith}
-use mathlib.Core.Path.{_≡_, refl, sym, ap, _∙_}
+use mathlib.Core.Path.{_≡_, refl, sym, ap, subst, _∙_}
 use mathlib.Core.Bool.{Bool}
-use mathlib.Core.List.{List}
+use mathlib.Core.List.{List, [], _∷_}
+use borrow.Author.Tests.{le-leb}
+use lib.Seq.{sets}
 use lib.IntN.{ℤ}
 use lib.ListN.{length}
-use Rattle.basics.specs.Lists.{gather, below}
+use Rattle.basics.specs.Lists.{gather, from, below}
+use Rattle.moving.specs.declared.Label.{Label}
+use Rattle.moving.specs.declared.Label.the-variants.{Minus, Zero, Plus}
+use Rattle.stencil.specs.Stencil.{stencilOf}
 use Rattle.stencil.specs.Tetrahedron.{q3}
 use Rattle.stencil.proofs.Sign.{winds}
 use Rattle.emit.specs.declared.Tetra.{Tetra}
@@ -14,9 +19,10 @@ use Rattle.emit.specs.declared.Weights.{Weights}
 use Rattle.emit.specs.declared.Cube.{Cube}
 use Rattle.emit.specs.declared.CubeWeights.{CubeWeights}
 use Rattle.emit.specs.Corners.{most, quarterAt}
-use Rattle.emit.specs.Stencils.{KnownTetra, Small, Room, tetraIds}
-use Rattle.emit.specs.Cubes.{quarterOf, quarterWeights, KnownCube, SmallCube, cubeWeights, edgeIds, cubeIds}
-use Rattle.emit.proofs.StencilLaws.{tetra-most}
+use Rattle.emit.specs.Picks.{weight, sum}
+use Rattle.emit.specs.Stencils.{KnownTetra, Small, Room, rowCount, tetraIds}
+use Rattle.emit.specs.Cubes.{quarterOf, quarterWeights, KnownCube, SmallCube, Bare, labelIn, weightAt, cubeWeights, edgeIds, cubeIds}
+use Rattle.emit.proofs.StencilLaws.{tetra-long, tetra-most}
 use Rattle.emit.proofs.Written.{bounded}
 
 -- the last edge, for any number that is none of the others
@@ -117,3 +123,45 @@ cube-room n samples state c w l i e r = rw (cube-as n samples state c w e) r
 pub cube-most : (n : ℕ) (samples : List ℤ) (state : List ℕ) (c : Cube) → length (cubeIds n samples state c) ≤ 48
 unfolding cubeIds
 cube-most n samples state c = bounded (edgeIds n c (cubeWeights samples state c)) 12 4 (λ j h. edge-most n c (cubeWeights samples state c) j) 4 (omega arith)
+
+-- a cube without a plus gives nothing
+light : (l : Label) → weight l < 5 → weight l ≤ 1
+unfolding weight
+light Minus h = omega arith
+light Zero h = omega arith
+light Plus h = absurd (omega arith)
+
+no-row : (m : ℕ) → m ≤ 4 → rowCount (stencilOf m) ≡ 0
+unfolding stencilOf rowCount
+no-row m h = simp (le-leb _ _ h)
+
+empty : (l : List ℕ) → length l ≡ 0 → l ≡ []
+empty [] e = refl
+empty (x ∷ l) e = absurd (omega arith)
+
+module _ (n : ℕ) (samples : List ℤ) (state : List ℕ) (c : Cube) where
+  light-at : (p : ℕ) → weightAt samples state p < 5 → weightAt samples state p ≤ 1
+  unfolding weightAt
+  light-at p h = light (labelIn samples state p) h
+
+  bare-sum : Bare (cubeWeights samples state c) → (e : ℕ) → sum (quarterWeights (cubeWeights samples state c) e) ≤ 4
+  unfolding sum cubeWeights
+  bare-sum b zero = omega (arith, light-at (c .mm) (b .mm-bare), light-at (c .pm) (b .pm-bare), light-at (c .low) (b .low-bare), light-at (c .high) (b .high-bare))
+  bare-sum b (suc zero) = omega (arith, light-at (c .pm) (b .pm-bare), light-at (c .pp) (b .pp-bare), light-at (c .low) (b .low-bare), light-at (c .high) (b .high-bare))
+  bare-sum b (suc (suc zero)) = omega (arith, light-at (c .mp) (b .mp-bare), light-at (c .pp) (b .pp-bare), light-at (c .low) (b .low-bare), light-at (c .high) (b .high-bare))
+  bare-sum b (suc (suc (suc e))) = omega (arith, light-at (c .mm) (b .mm-bare), light-at (c .mp) (b .mp-bare), light-at (c .low) (b .low-bare), light-at (c .high) (b .high-bare))
+
+  bare-edge : Bare (cubeWeights samples state c) → (e : ℕ) → edgeIds n c (cubeWeights samples state c) e ≡ []
+  unfolding edgeIds
+  bare-edge b e =
+      empty _ (tetra-long n (winds (quarterAt e)) (quarterOf c e) (quarterWeights (cubeWeights samples state c) e)
+      ∙ ap (λ (m : ℕ). 4 * m) (no-row _ (bare-sum b e)))
+
+  bare-cube : Bare (cubeWeights samples state c) → cubeIds n samples state c ≡ []
+  unfolding cubeIds gather from
+  bare-cube b = rw (bare-edge b 0, bare-edge b 1, bare-edge b 2, bare-edge b 3) refl
+
+  -- so nothing is written, and the index stays
+  pub bare-written : (w : CubeWeights) → w ≡ cubeWeights samples state c → Bare w → (l : List ℕ) (i : ℕ)
+      → (i ≡ i + length (cubeIds n samples state c)) × (l ≡ sets l i (cubeIds n samples state c))
+  bare-written w e b l i = rw (bare-cube (subst Bare e b)) (omega arith, refl)

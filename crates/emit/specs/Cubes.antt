@@ -74,6 +74,15 @@ pub record SmallCube (w : CubeWeights) : Type 0 where
   pub pp-small : w .pp ≤ 5
   pub mp-small : w .mp ≤ 5
 
+-- none of the six is plus
+pub record Bare (w : CubeWeights) : Type 0 where
+  pub low-bare : w .low < 5
+  pub high-bare : w .high < 5
+  pub mm-bare : w .mm < 5
+  pub pm-bare : w .pm < 5
+  pub pp-bare : w .pp < 5
+  pub mp-bare : w .mp < 5
+
 unfoldable pub edgeIds : ℕ → Cube → CubeWeights → ℕ → List ℕ
 edgeIds n c w e = tetraIds n (winds (quarterAt e)) (quarterOf c e) (quarterWeights w e)
 

@@ -8,6 +8,7 @@ use crate::writing;
 use places::Place;
 use places::volume;
 ghost use mathlib.Core.Path.{_≡_};
+ghost use mathlib.Core.Bool.{true};
 ghost use Prim.Native.Nat.{_+_, _<_, _≤_};
 ghost use lib.ListN.{length};
 ghost use lib.Seq.{sets};
@@ -17,7 +18,7 @@ ghost use Rattle.places.specs.Places.{placeAt, InBox, placeBox};
 ghost use Rattle.emit.specs.Corners.{most, quarterAt};
 ghost use Rattle.emit.specs.Picks.{weight};
 ghost use Rattle.emit.specs.Stencils.{Room, rowsMost};
-ghost use Rattle.emit.specs.Cubes.{weightAt, windsWith, cubeWeights, quarterOf, quarterWeights, KnownCube, SmallCube, cubeIds};
+ghost use Rattle.emit.specs.Cubes.{weightAt, windsWith, cubeWeights, quarterOf, quarterWeights, KnownCube, SmallCube, Bare, cubeIds};
 
 // The weight of a sample's sign.
 fn weight_of(x: i16) -> usize
@@ -191,6 +192,31 @@ fn winding(e: usize) -> bool
     }
 }
 
+// None of the six points is plus: the cube gives no row.
+fn is_bare(w: CubeWeights) -> bool
+    ensures { λ r. ⌜ (r ≡ true → Bare w) ⌝ }
+{
+    if 5 <= w.low {
+        return false;
+    }
+    if 5 <= w.high {
+        return false;
+    }
+    if 5 <= w.mm {
+        return false;
+    }
+    if 5 <= w.pm {
+        return false;
+    }
+    if 5 <= w.pp {
+        return false;
+    }
+    if 5 <= w.mp {
+        return false;
+    }
+    true
+}
+
 // The rows of the four tetrahedra between a cube and the next one, from an index on; the index after
 // them.
 pub fn write_cube(
@@ -210,6 +236,9 @@ pub fn write_cube(
     ensures { λ r. ⌜ now (rows .exit) ≡ sets (now (rows .entry)) at (cubeIds n (now (samples .entry)) (now (state .entry)) c) ⌝ }
 {
     let w = weigh_cube(samples, state, c);
+    if is_bare(w) {
+        return at;
+    }
     let mut to = at;
     for e in 0..4 {
         let wound = winding(e);

@@ -1,0 +1,30 @@
+-- Each way out by the tests that led there. Assumes nothing.
+use mathlib.Core.Bool.{false≢true}
+use borrow.Author.Needs.{needs}
+use Rattle.emit.proofs.cubes.is_bare.Statement.{statement}
+use Rattle.emit.proofs.cubes.is_bare.Tie as tie
+
+returns : tie.Need-returns
+returns c = λ e. absurd (false≢true e)
+
+returns-2 : tie.Need-returns-2
+returns-2 c = λ e. absurd (false≢true e)
+
+returns-3 : tie.Need-returns-3
+returns-3 c = λ e. absurd (false≢true e)
+
+returns-4 : tie.Need-returns-4
+returns-4 c = λ e. absurd (false≢true e)
+
+returns-5 : tie.Need-returns-5
+returns-5 c = λ e. absurd (false≢true e)
+
+returns-6 : tie.Need-returns-6
+returns-6 c = λ e. absurd (false≢true e)
+
+returns-7 : tie.Need-returns-7
+returns-7 c = search needs
+
+pub is-bare-spec : {M : Type 1} → statement M
+is-bare-spec =
+    tie.close (tie.spec returns returns-2 returns-3 returns-4 returns-5 returns-6 returns-7)
