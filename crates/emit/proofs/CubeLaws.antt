@@ -2,9 +2,10 @@
 use Prim.Native.Nat.{ℕ, zero, suc, _+_, _*_, _≤_, _<_}
 use native.Mathlib.Omega.{arith}
 use mathlib.Core.Path.{_≡_, refl, sym, ap, subst, _∙_}
-use mathlib.Core.Bool.{Bool}
+use mathlib.Core.Bool.{Bool, true, false, _&&_, false≢true}
 use mathlib.Core.List.{List, [], _∷_}
-use borrow.Author.Tests.{le-leb}
+use borrow.Author.Tests.{ltb-true, lt-ltb, le-ltb, le-leb, eqb-true}
+use lib.Dec.{ltb}
 use lib.Seq.{sets}
 use lib.IntN.{ℤ}
 use lib.ListN.{length}
@@ -20,10 +21,10 @@ use Rattle.emit.specs.declared.Cube.{Cube}
 use Rattle.emit.specs.declared.CubeWeights.{CubeWeights}
 use Rattle.emit.specs.Corners.{most, quarterAt}
 use Rattle.emit.specs.Picks.{weight, sum}
-use Rattle.emit.specs.Stencils.{KnownTetra, Small, Room, rowCount, tetraIds}
-use Rattle.emit.specs.Cubes.{quarterOf, quarterWeights, KnownCube, SmallCube, Bare, labelIn, weightAt, cubeWeights, edgeIds, cubeIds}
-use Rattle.emit.proofs.StencilLaws.{tetra-long, tetra-most}
-use Rattle.emit.proofs.Written.{bounded}
+use Rattle.emit.specs.Stencils.{KnownTetra, Small, Room, rowCount, tetraIds, solid}
+use Rattle.emit.specs.Cubes.{quarterOf, quarterWeights, KnownCube, SmallCube, bare, solidly, solidCube, labelIn, weightAt, cubeWeights, edgeIds, cubeIds}
+use Rattle.emit.proofs.StencilLaws.{tetra-long, tetra-most, empty, solid-long}
+use Rattle.emit.proofs.Written.{bounded, evenly}
 
 -- the last edge, for any number that is none of the others
 module _ (e : ℕ) (p : e ≡ 0 → ⊥) (q : e ≡ 1 → ⊥) (r : e ≡ 2 → ⊥) where
@@ -124,6 +125,79 @@ pub cube-most : (n : ℕ) (samples : List ℤ) (state : List ℕ) (c : Cube) →
 unfolding cubeIds
 cube-most n samples state c = bounded (edgeIds n c (cubeWeights samples state c)) 12 4 (λ j h. edge-most n c (cubeWeights samples state c) j) 4 (omega arith)
 
+-- the six tests of a cube without a plus
+pub record Bare (w : CubeWeights) : Type 0 where
+  pub low-bare : w .low < 5
+  pub high-bare : w .high < 5
+  pub mm-bare : w .mm < 5
+  pub pm-bare : w .pm < 5
+  pub pp-bare : w .pp < 5
+  pub mp-bare : w .mp < 5
+
+and-first : (a b : Bool) → (a && b) ≡ true → a ≡ true
+and-first true b e = refl
+and-first false b e = absurd (false≢true e)
+
+and-rest : (a b : Bool) → (a && b) ≡ true → b ≡ true
+and-rest true b e = e
+and-rest false b e = absurd (false≢true e)
+
+pub bare-all : (w : CubeWeights) → bare w ≡ true → Bare w
+unfolding bare
+bare-all w e =
+    let e₁ = and-rest (ltb (w .low) 5) _ e in
+    let e₂ = and-rest (ltb (w .high) 5) _ e₁ in
+    let e₃ = and-rest (ltb (w .mm) 5) _ e₂ in
+    let e₄ = and-rest (ltb (w .pm) 5) _ e₃ in
+    record {
+      low-bare = ltb-true _ _ (and-first (ltb (w .low) 5) _ e);
+      high-bare = ltb-true _ _ (and-first (ltb (w .high) 5) _ e₁);
+      mm-bare = ltb-true _ _ (and-first (ltb (w .mm) 5) _ e₂);
+      pm-bare = ltb-true _ _ (and-first (ltb (w .pm) 5) _ e₃);
+      pp-bare = ltb-true _ _ (and-first (ltb (w .pp) 5) _ e₄);
+      mp-bare = ltb-true _ _ (and-rest (ltb (w .pp) 5) _ e₄);
+    }
+
+pub all-bare : (w : CubeWeights) → Bare w → bare w ≡ true
+unfolding bare
+all-bare w b =
+    simp (lt-ltb _ _ (b .low-bare), lt-ltb _ _ (b .high-bare), lt-ltb _ _ (b .mm-bare), lt-ltb _ _ (b .pm-bare), lt-ltb _ _ (b .pp-bare),
+    lt-ltb _ _ (b .mp-bare))
+
+-- a cube of six plus points
+module _ (n : ℕ) (c : Cube) where
+  pub solid-quarter : (e : ℕ) → solid ≡ quarterWeights solidCube e
+  solid-quarter zero = refl
+  solid-quarter (suc zero) = refl
+  solid-quarter (suc (suc zero)) = refl
+  solid-quarter (suc (suc (suc e))) = refl
+
+  pub solid-edge : (e : ℕ) (wound : Bool) (t : Tetra) → wound ≡ winds (quarterAt e) → t ≡ quarterOf c e
+      → tetraIds n wound t solid ≡ edgeIds n c solidCube e
+  solid-edge e wound t p q = edge-is n c solidCube e wound t solid p q (solid-quarter e)
+
+  solid-edge-long : (e : ℕ) → length (edgeIds n c solidCube e) ≡ 4
+  solid-edge-long e =
+      ap length (sym (solid-edge e (winds (quarterAt e)) (quarterOf c e) refl refl)) ∙ solid-long n (winds (quarterAt e)) (quarterOf c e)
+
+  pub solid-edge-most : (j : ℕ) → j < 4 → length (edgeIds n c solidCube j) ≤ 4
+  solid-edge-most j h = omega (arith, solid-edge-long j)
+
+  pub solid-cube-long : length (gather (edgeIds n c solidCube) (below 4)) ≡ 16
+  solid-cube-long = evenly (edgeIds n c solidCube) 4 solid-edge-long 4
+
+pub solid-is : (w : CubeWeights) → SmallCube w → solidly w ≡ true → w ≡ solidCube
+unfolding solidly
+solid-is w k t =
+    let total = eqb-true (w .low + w .high + w .mm + (w .pm + w .pp + w .mp)) 30 t in
+    let p₁ : w .low ≡ 5 = omega (arith, total, k) in
+    let p₂ : w .high ≡ 5 = omega (arith, total, k) in
+    let p₃ : w .mm ≡ 5 = omega (arith, total, k) in
+    let p₄ : w .pm ≡ 5 = omega (arith, total, k) in
+    let p₅ : w .pp ≡ 5 = omega (arith, total, k) in
+    let p₆ : w .mp ≡ 5 = omega (arith, total, k) in
+    λ i. record { low = p₁ i; high = p₂ i; mm = p₃ i; pm = p₄ i; pp = p₅ i; mp = p₆ i }
+
 -- a cube without a plus gives nothing
 light : (l : Label) → weight l < 5 → weight l ≤ 1
 unfolding weight
@@ -134,10 +208,6 @@ light Plus h = absurd (omega arith)
 no-row : (m : ℕ) → m ≤ 4 → rowCount (stencilOf m) ≡ 0
 unfolding stencilOf rowCount
 no-row m h = simp (le-leb _ _ h)
-
-empty : (l : List ℕ) → length l ≡ 0 → l ≡ []
-empty [] e = refl
-empty (x ∷ l) e = absurd (omega arith)
 
 module _ (n : ℕ) (samples : List ℤ) (state : List ℕ) (c : Cube) where
   light-at : (p : ℕ) → weightAt samples state p < 5 → weightAt samples state p ≤ 1
@@ -157,11 +227,11 @@ module _ (n : ℕ) (samples : List ℤ) (state : List ℕ) (c : Cube) where
       empty _ (tetra-long n (winds (quarterAt e)) (quarterOf c e) (quarterWeights (cubeWeights samples state c) e)
       ∙ ap (λ (m : ℕ). 4 * m) (no-row _ (bare-sum b e)))
 
-  bare-cube : Bare (cubeWeights samples state c) → cubeIds n samples state c ≡ []
+  pub bare-cube : Bare (cubeWeights samples state c) → cubeIds n samples state c ≡ []
   unfolding cubeIds gather from
   bare-cube b = rw (bare-edge b 0, bare-edge b 1, bare-edge b 2, bare-edge b 3) refl
 
   -- so nothing is written, and the index stays
-  pub bare-written : (w : CubeWeights) → w ≡ cubeWeights samples state c → Bare w → (l : List ℕ) (i : ℕ)
+  pub bare-written : (w : CubeWeights) → w ≡ cubeWeights samples state c → bare w ≡ true → (l : List ℕ) (i : ℕ)
       → (i ≡ i + length (cubeIds n samples state c)) × (l ≡ sets l i (cubeIds n samples state c))
-  bare-written w e b l i = rw (bare-cube (subst Bare e b)) (omega arith, refl)
+  bare-written w e b l i = rw (bare-cube (bare-all _ (sym (ap bare e) ∙ b))) (omega arith, refl)

@@ -4,6 +4,7 @@ pub mod Written
 pub mod StencilLaws
 pub mod WeightLaws
 pub mod CubeLaws
+pub mod BareLaws
 pub mod PassLaws
 pub mod Numbers
 pub mod Patterns

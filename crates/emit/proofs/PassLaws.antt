@@ -3,9 +3,11 @@ use Prim.Native.Nat.{ℕ, zero, suc, _+_, _*_, _-_, _≤_, _<_}
 use native.Mathlib.Nat.{mul-le-mul}
 use native.Mathlib.Omega.{arith}
 use mathlib.Core.Path.{_≡_, refl, sym, ap, _∙_}
-use mathlib.Core.List.{List}
+use mathlib.Core.Bool.{true}
+use mathlib.Core.List.{List, []}
 use lib.IntN.{ℤ}
 use lib.ListN.{length}
+use lib.Seq.{sets}
 use Rattle.basics.specs.Lists.{gather, from, below}
 use Rattle.lattice.specs.declared.Sizes.{Sizes}
 use Rattle.lattice.specs.Axis.{Axis, along-x, along-y, along-z}
@@ -15,9 +17,10 @@ use Rattle.emit.specs.declared.Cube.{Cube}
 use Rattle.emit.specs.declared.Pass.{Pass}
 use Rattle.emit.specs.Corners.{most, axisAt}
 use Rattle.emit.specs.Stencils.{Room, rowsMost}
-use Rattle.emit.specs.Cubes.{KnownCube, cubeIds}
+use Rattle.emit.specs.Cubes.{KnownCube, bare, cubeWeights, cubeIds}
 use Rattle.emit.specs.Passes.{movedCube, KnownRun, placedIds, runIds, InPass, firstCorner, firstCentre, lineIds, layerIds, passIds, lineMost, layerMost, passMost, Tables, stepBy, passOf, blockIds}
-use Rattle.emit.proofs.CubeLaws.{known-within, cube-most}
+use Rattle.emit.proofs.CubeLaws.{known-within, cube-most, bare-all, bare-cube}
+use Rattle.emit.proofs.StencilLaws.{empty}
 use Rattle.emit.proofs.Written.{bounded, Written, index-most, room-left}
 use Rattle.emit.proofs.Numbers.{pass-in, sizes-are}
 
@@ -36,6 +39,9 @@ module _ (n : ℕ) (step : Cube) (corner centre count : ℕ) (k : KnownRun n ste
   pub run-from : (corner + x < n) × (centre + x < n)
   run-from = from-known n step (corner + x) (centre + x) (k .known x h)
 
+pub run-as : {m n : ℕ} (step : Cube) (corner centre count : ℕ) → m ≡ n → KnownRun n step corner centre count → KnownRun m step corner centre count
+run-as step corner centre count e k = rw e k
+
 module _ (n : ℕ) (samples : List ℤ) (state : List ℕ) (step : Cube) (corner centre : ℕ) where
   pub placed-is : (x : ℕ) (c : Cube) → c ≡ movedCube step (corner + x) (centre + x) → cubeIds n samples state c ≡ placedIds n samples state step corner centre x
   unfolding placedIds
@@ -48,6 +54,18 @@ module _ (n : ℕ) (samples : List ℤ) (state : List ℕ) (step : Cube) (corner
   pub run-is : (count : ℕ) → gather (placedIds n samples state step corner centre) (below count) ≡ runIds n samples state step corner centre count
   unfolding runIds
   run-is count = refl
+
+  -- cubes without a plus, side by side, give nothing
+  pub bare-run-written : (count : ℕ) → ((x : ℕ) → x < count → bare (cubeWeights samples state (movedCube step (corner + x) (centre + x))) ≡ true)
+      → (l : List ℕ) (i : ℕ) → (i ≡ i + length (runIds n samples state step corner centre count)) × (l ≡ sets l i (runIds n samples state step corner centre count))
+  unfolding runIds placedIds
+  bare-run-written count b l i = rw nothing (omega arith, refl)
+    where
+      none-placed : (x : ℕ) → x < count → length (placedIds n samples state step corner centre x) ≤ 0
+      none-placed x h = rw (bare-cube n samples state (movedCube step (corner + x) (centre + x)) (bare-all _ (b x h))) (omega arith)
+
+      nothing : runIds n samples state step corner centre count ≡ []
+      nothing = empty _ (omega (arith, bounded (placedIds n samples state step corner centre) 0 count none-placed count (omega arith)))
 
   run-most : (count : ℕ) → count ≤ 64 → length (runIds n samples state step corner centre count) ≤ lineMost
   unfolding runIds

@@ -19,8 +19,8 @@ use Rattle.emit.specs.declared.Tetra.{Tetra}
 use Rattle.emit.specs.declared.Weights.{Weights}
 use Rattle.emit.specs.declared.Order.{Order}
 use Rattle.emit.specs.Corners.{axisAt, quarterAt, vertexAt, Known, KnownRow, cornerId, rowIds, turned, cornerOf, pointAt, cutAt, startBetween}
-use Rattle.emit.specs.Picks.{sum, picked, chosen, ordered, isEven}
-use Rattle.emit.specs.Stencils.{lines, turnedRow, stencilRows, KnownRows, none, more, allIds, rowCount, tetraIds, KnownTetra, InOrder, Room}
+use Rattle.emit.specs.Picks.{sum, picked, chosen, ordered, inversion, isEven}
+use Rattle.emit.specs.Stencils.{lines, turnedRow, stencilRows, KnownRows, none, more, allIds, rowCount, tetraIds, KnownTetra, InOrder, Room, solid}
 use Rattle.emit.proofs.CornerLaws.{way-lt}
 use Rattle.emit.proofs.Written.{sets-append, sets-none}
 
@@ -178,7 +178,7 @@ pub beq-false : (a b : Bool) → a ≡ false → not b ≡ Bool·beq a b
 beq-false a true e = rw e refl
 beq-false a false e = rw e refl
 
-empty : (l : List ℕ) → length l ≡ 0 → l ≡ []
+pub empty : (l : List ℕ) → length l ≡ 0 → l ≡ []
 empty [] e = refl
 empty (x ∷ l) e = absurd (omega arith)
 
@@ -220,3 +220,42 @@ pub in-order : (n : ℕ) (t : Tetra) (w : Weights) (o : Order) → KnownTetra n 
 in-order n t w o h e =
     let a = ordered-among w in
     record { kind = h .kind; places = rw e (a .first-in, a .second-in, a .third-in, a .fourth-in) }
+
+-- four plus corners: the order is the ascending one, and the tetrahedron itself is the row
+abbrev pub ascending : Order
+ascending = record { first = 0; second = 1; third = 2; fourth = 3 }
+
+solid-order : ascending ≡ ordered solid
+unfolding ordered chosen picked
+solid-order = refl
+
+solid-even : true ≡ isEven solid
+unfolding isEven inversion
+solid-even = refl
+
+beq-right : (b : Bool) → b ≡ Bool·beq b true
+beq-right true = refl
+beq-right false = refl
+
+solid-count : 1 ≡ rowCount (stencilOf (sum solid))
+unfolding rowCount stencilOf sum
+solid-count = refl
+
+module _ (n : ℕ) (wound : Bool) (t : Tetra) where
+  pub solid-long : length (tetraIds n wound t solid) ≡ 4
+  solid-long = omega (arith, tetra-long n wound t solid, solid-count)
+
+  module _ (rows : List Row) (s : rows ≡ stencilRows t ascending wound (stencilOf 20)) where
+    the-rows : rows ≡ stencilRows t ascending wound (stencilOf (sum solid))
+    unfolding sum
+    the-rows = s
+
+    pub solid-known : KnownTetra n t → KnownRows n rows
+    solid-known h = known-for n wound t solid ascending true wound rows solid-order solid-even (beq-right wound) the-rows h
+
+    pub solid-one : length rows ≡ 1
+    solid-one = ap length the-rows ∙ lines-count (pointAt t) (cutAt t) turnedRow (stencilOf (sum solid)) ascending wound ∙ sym solid-count
+
+    pub solid-written : (l now : List ℕ) (i : ℕ) → now ≡ sets l i (allIds n rows) → now ≡ sets l i (tetraIds n wound t solid)
+    solid-written l now i h =
+        written-for n wound t solid ascending true wound rows solid-order solid-even (beq-right wound) the-rows 1 solid-count l now i h .1

@@ -70,6 +70,15 @@ module _ (f : ℕ → List ℕ) where
       let v = rw (add-one k) at u in
       omega (arith, v, bounded c n h k (omega arith), h k (omega arith), mul-suc c k)
 
+  -- all parts are as long as c
+  pub evenly : (c : ℕ) → ((j : ℕ) → length (f j) ≡ c) → (k : ℕ) → length (gather f (below k)) ≡ c * k
+  unfolding gather from
+  evenly c h zero = omega arith
+  evenly c h (suc k) =
+      let u = longer k in
+      let v = rw (add-one k) at u in
+      omega (arith, v, evenly c h k, h k, mul-suc c k)
+
 -- a loop that writes f 0, f 1 .. one after the other from i on, after k turns: what the table holds, and the index after it
 pub record Written (f : ℕ → List ℕ) (l : List ℕ) (i k : ℕ) (now : List ℕ) (at : ℕ) : Type 0 where
   pub now-is : now ≡ sets l i (gather f (below k))

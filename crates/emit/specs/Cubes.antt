@@ -1,8 +1,9 @@
 -- The tetrahedra between a cube and the next one along an axis, and what is written for them.
-use Prim.Native.Nat.{ℕ, zero, suc, _≤_, _<_}
+use Prim.Native.Nat.{ℕ, zero, suc, _+_, _≤_, _<_}
 use mathlib.Core.List.{List, []}
-use mathlib.Core.Bool.{Bool}
+use mathlib.Core.Bool.{Bool, _&&_}
 use lib.IntN.{ℤ, pos}
+use lib.Dec.{ltb, eqb}
 use lib.Signed.{ltZ}
 use Rattle.basics.specs.Lists.{gather, below}
 use Rattle.lattice.specs.declared.Sizes.{Sizes}
@@ -74,14 +75,15 @@ pub record SmallCube (w : CubeWeights) : Type 0 where
   pub pp-small : w .pp ≤ 5
   pub mp-small : w .mp ≤ 5
 
--- none of the six is plus
-pub record Bare (w : CubeWeights) : Type 0 where
-  pub low-bare : w .low < 5
-  pub high-bare : w .high < 5
-  pub mm-bare : w .mm < 5
-  pub pm-bare : w .pm < 5
-  pub pp-bare : w .pp < 5
-  pub mp-bare : w .mp < 5
+-- none of the six is plus; all of them are
+unfoldable pub bare : CubeWeights → Bool
+bare w = ltb (w .low) 5 && (ltb (w .high) 5 && (ltb (w .mm) 5 && (ltb (w .pm) 5 && (ltb (w .pp) 5 && ltb (w .mp) 5))))
+
+unfoldable pub solidly : CubeWeights → Bool
+solidly w = eqb (w .low + w .high + w .mm + (w .pm + w .pp + w .mp)) 30
+
+abbrev pub solidCube : CubeWeights
+solidCube = record { low = 5; high = 5; mm = 5; pm = 5; pp = 5; mp = 5 }
 
 unfoldable pub edgeIds : ℕ → Cube → CubeWeights → ℕ → List ℕ
 edgeIds n c w e = tetraIds n (winds (quarterAt e)) (quarterOf c e) (quarterWeights w e)

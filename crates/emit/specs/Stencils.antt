@@ -94,6 +94,10 @@ pub record Small (w : Weights) : Type 0 where
 unfoldable pub tetraIds : ℕ → Bool → Tetra → Weights → List ℕ
 tetraIds n wound t w = allIds n (stencilRows t (ordered w) (Bool·beq wound (isEven w)) (stencilOf (sum w)))
 
+-- the weights of four plus corners
+abbrev pub solid : Weights
+solid = record { a = 5; b = 5; c = 5; d = 5 }
+
 -- a row table that is empty, so that rows are only counted, or has room for m numbers from an index on
 pub record Room (l : List ℕ) (at m : ℕ) : Type 0 where
   pub fits : 0 < length l → at + m ≤ length l

@@ -10,7 +10,7 @@ ghost use Rattle.emit.specs.Corners.{most, Known, KnownRow, cornerId, ro
 
 // A line an axis and an edge of the turn, and in it 8 times the start and the direction of the cut
 // between two corners: four times four of them.
-const CUTS: [usize; 192] = [
+const CUTS: [u8; 192] = [
     0,
     1,
     4,
@@ -256,6 +256,6 @@ pub fn cut(t: Tetra, u: usize, v: usize) -> Corner
     requires { ⌜ (u < 4) × (v < 4) ⌝ }
     ensures { λ r. ⌜ r ≡ cutAt t u v ⌝ }
 {
-    let packed = CUTS[64 * t.axis + (16 * t.edge + (4 * u + v))];
+    let packed = CUTS[64 * t.axis + (16 * t.edge + (4 * u + v))] as usize;
     Corner::Edge(number_at(t, packed / 8), packed % 8)
 }

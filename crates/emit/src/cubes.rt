@@ -8,17 +8,17 @@ use crate::writing;
 use places::Place;
 use places::volume;
 ghost use mathlib.Core.Path.{_≡_};
-ghost use mathlib.Core.Bool.{true};
 ghost use Prim.Native.Nat.{_+_, _<_, _≤_};
 ghost use lib.ListN.{length};
 ghost use lib.Seq.{sets};
+ghost use Rattle.basics.specs.Lists.{gather, below};
 ghost use Rattle.moving.specs.Label.{labelOf};
 ghost use Rattle.stencil.proofs.Sign.{winds};
 ghost use Rattle.places.specs.Places.{placeAt, InBox, placeBox};
 ghost use Rattle.emit.specs.Corners.{most, quarterAt};
 ghost use Rattle.emit.specs.Picks.{weight};
 ghost use Rattle.emit.specs.Stencils.{Room, rowsMost};
-ghost use Rattle.emit.specs.Cubes.{weightAt, windsWith, cubeWeights, quarterOf, quarterWeights, KnownCube, SmallCube, Bare, cubeIds};
+ghost use Rattle.emit.specs.Cubes.{weightAt, windsWith, cubeWeights, quarterOf, quarterWeights, KnownCube, SmallCube, bare, solidly, solidCube, edgeIds, cubeIds};
 
 // The weight of a sample's sign.
 fn weight_of(x: i16) -> usize
@@ -194,7 +194,7 @@ fn winding(e: usize) -> bool
 
 // None of the six points is plus: the cube gives no row.
 fn is_bare(w: CubeWeights) -> bool
-    ensures { λ r. ⌜ (r ≡ true → Bare w) ⌝ }
+    ensures { λ r. ⌜ r ≡ bare w ⌝ }
 {
     if 5 <= w.low {
         return false;
@@ -215,6 +215,36 @@ fn is_bare(w: CubeWeights) -> bool
         return false;
     }
     true
+}
+
+// All six points are plus: the four tetrahedra are rows themselves.
+fn is_solid(w: CubeWeights) -> bool
+    requires { ⌜ SmallCube w ⌝ }
+    ensures { λ r. ⌜ r ≡ solidly w ⌝ }
+{
+    w.low + w.high + w.mm + (w.pm + w.pp + w.mp) == 30
+}
+
+// The four rows of such a cube, from an index on; the index after them.
+fn write_solid_cube(rows: &mut [u32], at: usize, n: usize, c: Cube) -> usize
+    requires { ⌜ n ≤ most ⌝ }
+    requires { ⌜ KnownCube n c ⌝ }
+    requires { ⌜ at + 48 ≤ rowsMost ⌝ }
+    requires { ⌜ Room (now rows) at (length (gather (edgeIds n c solidCube) (below 4))) ⌝ }
+    ensures { λ r. ⌜ r ≡ at + length (gather (edgeIds n c solidCube) (below 4)) ⌝ }
+    ensures { λ r. ⌜ now (rows .exit) ≡ sets (now (rows .entry)) at (gather (edgeIds n c solidCube) (below 4)) ⌝ }
+{
+    if rows.len() == 0 {
+        return at + 16;
+    }
+    let mut to = at;
+    for e in 0..4 {
+        let wound = winding(e);
+        let t = quarter(c, e);
+        writing::write_solid(rows, to, n, wound, t);
+        to += 4;
+    }
+    to
 }
 
 // The rows of the four tetrahedra between a cube and the next one, from an index on; the index after
@@ -238,6 +268,9 @@ pub fn write_cube(
     let w = weigh_cube(samples, state, c);
     if is_bare(w) {
         return at;
+    }
+    if is_solid(w) {
+        return write_solid_cube(rows, at, n, c);
     }
     let mut to = at;
     for e in 0..4 {

@@ -1,4 +1,5 @@
 // The rows of a block, counted and written.
+pub mod bare;
 pub mod corners;
 pub mod cubes;
 pub mod passes;

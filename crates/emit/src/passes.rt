@@ -1,6 +1,7 @@
 // All rows of a block: for each axis, each cube that has a next one along it, by strides.
 use crate::Cube;
 use crate::Pass;
+use crate::bare;
 use crate::cubes;
 use lattice::Sizes;
 use lattice::counts;
@@ -53,6 +54,9 @@ fn write_run(
     ensures { λ r. ⌜ r ≡ at + length (runIds n (now (samples .entry)) (now (state .entry)) step corner centre count) ⌝ }
     ensures { λ r. ⌜ now (rows .exit) ≡ sets (now (rows .entry)) at (runIds n (now (samples .entry)) (now (state .entry)) step corner centre count) ⌝ }
 {
+    if bare::is_bare_run(samples, step, corner, centre, count) {
+        return at;
+    }
     let mut to = at;
     for x in 0..count {
         let c = cube_at(step, corner + x, centre + x);

@@ -1,4 +1,5 @@
 // The rows of one lattice tetrahedron, written or only counted.
+use crate::Order;
 use crate::Rows;
 use crate::Tetra;
 use crate::Weights;
@@ -11,7 +12,7 @@ ghost use Prim.Native.Nat.{_+_, _*_, _<_, _≤_};
 ghost use lib.ListN.{length};
 ghost use lib.Seq.{sets};
 ghost use Rattle.emit.specs.Corners.{most};
-ghost use Rattle.emit.specs.Stencils.{listed, KnownRows, allIds, KnownTetra, tetraIds, Small, Room, rowsMost};
+ghost use Rattle.emit.specs.Stencils.{listed, KnownRows, allIds, KnownTetra, tetraIds, Small, Room, rowsMost, solid};
 
 fn write(rows: &mut [u32], at: usize, n: usize, r: Rows)
     requires { ⌜ n ≤ most ⌝ }
@@ -75,4 +76,21 @@ pub fn write_tetra(
     let r = stencils::rows_for(pattern, t, o, keep);
     write(rows, at, n, r);
     at + 4 * count
+}
+
+// Four plus corners: the tetrahedron itself is the row.
+pub fn write_solid(rows: &mut [u32], at: usize, n: usize, wound: bool, t: Tetra)
+    requires { ⌜ n ≤ most ⌝ }
+    requires { ⌜ KnownTetra n t ⌝ }
+    requires { ⌜ at + 4 ≤ length (now rows) ⌝ }
+    ensures { λ _. ⌜ now (rows .exit) ≡ sets (now (rows .entry)) at (tetraIds n wound t solid) ⌝ }
+{
+    let ascending = Order {
+        first: 0,
+        second: 1,
+        third: 2,
+        fourth: 3,
+    };
+    let r = stencils::rows_for(20, t, ascending, wound);
+    write(rows, at, n, r);
 }

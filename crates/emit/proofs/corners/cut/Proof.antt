@@ -1,9 +1,10 @@
 -- The table of the code holds the start and the direction of every cut of every kind of tetrahedron: one computed test. Assumes nothing.
-use Rattle.emit.proofs.CornerLaws.{cut-is}
+use Rattle.emit.proofs.CornerLaws.{cut-is, entry-small}
 use Rattle.emit.proofs.CutTable.{cuts}
 use Rattle.emit.specs.declared.Corner.the-variants.{Edge}
 use mathlib.Core.Path.{refl, ap, _∙_}
 use Prim.Native.Nat.{ℕ}
+use native.Mathlib.Omega.{arith}
 use borrow.Author.Needs.{needs}
 use Rattle.emit.proofs.corners.cut.Statement.{statement}
 use Rattle.emit.proofs.corners.cut.Tie as tie
@@ -26,11 +27,12 @@ add-packed-2 c = search needs
 add-packed-3 : tie.Need-add-packed-3
 add-packed-3 c = search needs
 
-mul-packed-4 : tie.Need-mul-packed-4
-mul-packed-4 c = search needs
-
 array-read-packed : tie.Need-array-read-packed
 array-read-packed c = search needs
+
+cast-packed : tie.Need-cast-packed
+unfolding cuts
+cast-packed c = let a = c .before .before in omega (arith, entry-small (a .args .t) (a .args .u) (a .args .v) (a .pre .0) (a .pre .1 .0) (a .pre .1 .1))
 
 number-at-requires : tie.Need-number-at-requires
 number-at-requires c κs = search needs
@@ -49,7 +51,7 @@ cut-spec =
     add-packed
     add-packed-2
     add-packed-3
-    mul-packed-4
     array-read-packed
+    cast-packed
     number-at-requires
     returns)

@@ -1,0 +1,62 @@
+// Runs of cubes without a plus, told from the samples of whole lines of points: quick where there is air.
+use crate::Cube;
+ghost use mathlib.Core.Path.{_≡_};
+ghost use mathlib.Core.Bool.{true, false};
+ghost use mathlib.Core.List.{List};
+ghost use Prim.Native.Nat.{ℕ, _+_, _<_, _≤_};
+ghost use lib.IntN.{pos};
+ghost use lib.ListN.{length, getD};
+ghost use Rattle.moving.specs.Label.{labelOf};
+ghost use Rattle.emit.specs.Corners.{most};
+ghost use Rattle.emit.specs.Picks.{weight};
+ghost use Rattle.emit.specs.Cubes.{bare, cubeWeights};
+ghost use Rattle.emit.specs.Passes.{movedCube, KnownRun};
+
+// A sample among so many from one on is above zero. Nothing leaves the loop, so that many are
+// tested at a time.
+fn has_plus(samples: &[i16], from: usize, count: usize) -> bool
+    requires { ⌜ (from + count ≤ length (now samples)) × (length (now samples) ≤ most) ⌝ }
+    ensures { λ r. ⌜ (r ≡ false → (x : ℕ) → x < count → weight (labelOf (getD (now (samples .entry)) (from + x) (pos 0))) < 5) ⌝ }
+{
+    let mut found = false;
+    for x in 0..count {
+        if 0 < samples[from + x] {
+            found = true;
+        }
+    }
+    found
+}
+
+// None of the points of so many cubes side by side along x has a sample above zero.
+pub fn is_bare_run(
+    samples: &[i16],
+    step: Cube,
+    corner: usize,
+    centre: usize,
+    count: usize,
+) -> bool
+    requires { ⌜ length (now samples) ≤ most ⌝ }
+    requires { ⌜ KnownRun (length (now samples)) step corner centre count ⌝ }
+    ensures { λ r. ⌜ (r ≡ true → (state : List ℕ) (x : ℕ) → x < count
+        → bare (cubeWeights (now (samples .entry)) state (movedCube step (corner + x) (centre + x))) ≡ true) ⌝ }
+{
+    if count == 0 {
+        return true;
+    }
+    if has_plus(samples, centre + step.low, count) {
+        return false;
+    }
+    if has_plus(samples, centre + step.high, count) {
+        return false;
+    }
+    if has_plus(samples, corner + step.mm, count) {
+        return false;
+    }
+    if has_plus(samples, corner + step.pm, count) {
+        return false;
+    }
+    if has_plus(samples, corner + step.pp, count) {
+        return false;
+    }
+    !has_plus(samples, corner + step.mp, count)
+}
