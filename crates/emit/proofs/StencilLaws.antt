@@ -245,17 +245,14 @@ module _ (n : ℕ) (wound : Bool) (t : Tetra) where
   pub solid-long : length (tetraIds n wound t solid) ≡ 4
   solid-long = omega (arith, tetra-long n wound t solid, solid-count)
 
-  module _ (rows : List Row) (s : rows ≡ stencilRows t ascending wound (stencilOf 20)) where
-    the-rows : rows ≡ stencilRows t ascending wound (stencilOf (sum solid))
-    unfolding sum
-    the-rows = s
+  module _ (r : Row) (s : r ≡ turnedRow wound (pointAt t 0) (pointAt t 1) (pointAt t 2) (pointAt t 3)) where
+    the-row : (r ∷ []) ≡ stencilRows t ascending wound (stencilOf (sum solid))
+    unfolding sum stencilOf lines
+    the-row = ap (λ (x : Row). x ∷ []) s
 
-    pub solid-known : KnownTetra n t → KnownRows n rows
-    solid-known h = known-for n wound t solid ascending true wound rows solid-order solid-even (beq-right wound) the-rows h
+    pub solid-known : KnownTetra n t → KnownRow n r
+    solid-known h = first-known (known-for n wound t solid ascending true wound (r ∷ []) solid-order solid-even (beq-right wound) the-row h)
 
-    pub solid-one : length rows ≡ 1
-    solid-one = ap length the-rows ∙ lines-count (pointAt t) (cutAt t) turnedRow (stencilOf (sum solid)) ascending wound ∙ sym solid-count
-
-    pub solid-written : (l now : List ℕ) (i : ℕ) → now ≡ sets l i (allIds n rows) → now ≡ sets l i (tetraIds n wound t solid)
+    pub solid-written : (l now : List ℕ) (i : ℕ) → now ≡ sets l i (rowIds n r) → now ≡ sets l i (tetraIds n wound t solid)
     solid-written l now i h =
-        written-for n wound t solid ascending true wound rows solid-order solid-even (beq-right wound) the-rows 1 solid-count l now i h .1
+        written-for n wound t solid ascending true wound (r ∷ []) solid-order solid-even (beq-right wound) the-row 1 solid-count l now i (one-row n l i r now h) .1

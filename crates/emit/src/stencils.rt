@@ -9,8 +9,8 @@ use crate::corners;
 ghost use mathlib.Core.Path.{_≡_};
 ghost use Prim.Native.Nat.{_≤_};
 ghost use Rattle.stencil.specs.Stencil.{stencilOf, plus-zero-only, +++-, ++--, ++-0, +---, +--0, +-00};
-ghost use Rattle.emit.specs.Corners.{turned};
-ghost use Rattle.emit.specs.Stencils.{InOrder, rowCount, listed, stencilRows};
+ghost use Rattle.emit.specs.Corners.{turned, pointAt};
+ghost use Rattle.emit.specs.Stencils.{InOrder, rowCount, listed, turnedRow, stencilRows};
 
 // The row as it is, or with its last two corners exchanged.
 fn turn(keep: bool, r: Row) -> Row
@@ -31,14 +31,15 @@ fn turn(keep: bool, r: Row) -> Row
     }
 }
 
-fn only_corners(t: Tetra, o: Order, keep: bool) -> Rows
-    ensures { λ r. ⌜ listed r ≡ stencilRows t o keep plus-zero-only ⌝ }
+// The four corners as they stand in the order.
+pub fn corner_row(t: Tetra, o: Order, keep: bool) -> Row
+    ensures { λ r. ⌜ r ≡ turnedRow keep (pointAt t (o .first)) (pointAt t (o .second)) (pointAt t (o .third)) (pointAt t (o .fourth)) ⌝ }
 {
     let c1 = corners::point(t, o.first);
     let c2 = corners::point(t, o.second);
     let c3 = corners::point(t, o.third);
     let c4 = corners::point(t, o.fourth);
-    let first = turn(
+    turn(
         keep,
         Row {
             a: c1,
@@ -46,8 +47,13 @@ fn only_corners(t: Tetra, o: Order, keep: bool) -> Rows
             c: c3,
             d: c4,
         },
-    );
-    Rows::One(first)
+    )
+}
+
+fn only_corners(t: Tetra, o: Order, keep: bool) -> Rows
+    ensures { λ r. ⌜ listed r ≡ stencilRows t o keep plus-zero-only ⌝ }
+{
+    Rows::One(corner_row(t, o, keep))
 }
 
 fn three_plus_one_minus(t: Tetra, o: Order, keep: bool) -> Rows

@@ -91,6 +91,6 @@ pub fn write_solid(rows: &mut [u32], at: usize, n: usize, wound: bool, t: Tetra)
         third: 2,
         fourth: 3,
     };
-    let r = stencils::rows_for(20, t, ascending, wound);
-    write(rows, at, n, r);
+    let row = stencils::corner_row(t, ascending, wound);
+    corners::write_row(rows, at, n, row);
 }
