@@ -127,6 +127,42 @@ pub enum Refusal {
     Other(u32),
 }
 
+impl Refusal {
+    /// The number of document 01.
+    pub fn number(self) -> u32 {
+        match self {
+            Refusal::Size => 1,
+            Refusal::Samples => 2,
+            Refusal::Cuts => 3,
+            Refusal::State => 4,
+            Refusal::Rim(_) => 5,
+            Refusal::Gap(_) => 6,
+            Refusal::Stray(_) => 7,
+            Refusal::Corner => 8,
+            Refusal::Code => 9,
+            Refusal::Table { .. } => 10,
+            Refusal::Other(number) => number,
+        }
+    }
+
+    /// The point or the byte at fault, 0 where there is none to name.
+    pub fn place(self) -> u64 {
+        match self {
+            Refusal::Rim(place) | Refusal::Gap(place) | Refusal::Stray(place) => place,
+            _ => 0,
+        }
+    }
+}
+
+/// As the bench program prints it: `refused 6 91`.
+impl std::fmt::Display for Refusal {
+    fn fmt(&self, f: &mut std::fmt::Formatter) -> std::fmt::Result {
+        write!(f, "refused {} {}", self.number(), self.place())
+    }
+}
+
+impl std::error::Error for Refusal {}
+
 /// The measures of a block.
 #[derive(Clone, Copy, Debug, PartialEq, Eq)]
 pub struct Measures {
