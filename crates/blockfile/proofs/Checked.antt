@@ -1,8 +1,9 @@
--- What the checks have shown where they answer 0, that a refusal leaves the tables alone, and what follows of a whole file.
+-- What the checks have shown where they answer 0, that all else is a refusal, and what follows of a whole file.
 -- Assumes nothing.
 use Prim.Native.Nat.{ℕ, _*_, _<_, _≤_}
 use native.Mathlib.Omega.{arith}
 use mathlib.Core.Path.{_≡_, refl, sym, ap, _∙_}
+use mathlib.Core.Logic.{_⊎_, inl, inr}
 use mathlib.Core.Bool.{Bool, true, false, not}
 use mathlib.Core.List.{List, _++_}
 use lib.IntN.{ℤ}
@@ -11,6 +12,7 @@ use lib.Seq.{sets}
 use lib.Dec.{ltb}
 use borrow.Author.Tests.{lt-ltb, le-ltb, ltb-false, eq-eqb, ne-eqb, not-false}
 use Rattle.basics.specs.Choice.{if_then_else_}
+use Rattle.basics.proofs.Test.{lt-or}
 use Rattle.lattice.specs.declared.Sizes.{Sizes}
 use Rattle.lattice.specs.Counts.{Sized, sizesFit, points}
 use Rattle.lattice.proofs.Sized.{fits-sized}
@@ -51,14 +53,14 @@ module _ (samples : List ℤ) (cuts : List ℕ) where
   passed true k more h e = absurd (h e)
   passed false k more h e = (refl, (refl, e))
 
-  -- an outcome that has left the tables alone, unless it answers 0
-  Kept : Outcome → Type 0
-  Kept o = (o .answer .number ≡ 0 → ⊥) → (samples ≡ o .samples) × (cuts ≡ o .cuts)
+  -- an outcome that is a refusal, unless it answers 0
+  Refuses : Outcome → Type 0
+  Refuses o = (o .answer .number ≡ 0 → ⊥) → (k : ℕ) × (o ≡ refused samples cuts k)
 
-  kept : (t : Bool) (k : ℕ) (more : Outcome) → Kept more → Kept (if t then refused samples cuts k else more)
-  unfolding Kept
-  kept true k more h n = (refl, refl)
-  kept false k more h n = h n
+  refuses : (t : Bool) (k : ℕ) (more : Outcome) → Refuses more → Refuses (if t then refused samples cuts k else more)
+  unfolding Refuses
+  refuses true k more h n = (k, refl)
+  refuses false k more h n = h n
 
 -- a file that is read into the tables, and its sizes
 pub record Readable (bytes : List ℕ) (limit : ℕ) (samples : List ℤ) (cuts : List ℕ) (s : Sizes) : Type 0 where
@@ -68,6 +70,11 @@ pub record Readable (bytes : List ℕ) (limit : ℕ) (samples : List ℤ) (cuts 
   pub roomy : 7 * points s ≤ length cuts
   pub well : wellFormed bytes (points s) ≡ true
   pub is : read bytes limit samples cuts ≡ taken bytes samples cuts s
+
+pub record Small (s : Sizes) : Type 0 where
+  pub x : s .nx ≤ 64
+  pub y : s .ny ≤ 64
+  pub z : s .nz ≤ 64
 
 module _ (bytes : List ℕ) (limit : ℕ) (samples : List ℤ) (cuts : List ℕ) where
   pub readable : read bytes limit samples cuts .answer .number ≡ 0 → Readable bytes limit samples cuts (fileSizes bytes)
@@ -89,25 +96,28 @@ module _ (bytes : List ℕ) (limit : ℕ) (samples : List ℤ) (cuts : List ℕ)
         is = s1 .1 .0 ∙ s2 .1 .0 ∙ s3 .1 .0 ∙ s4 .1 .0 ∙ s5 .1 .0 ∙ s6 .1 .0;
       }
 
-  read-keeps : Kept samples cuts (read bytes limit samples cuts)
-  unfolding read readBody Kept taken
-  read-keeps =
+  read-refuses : Refuses samples cuts (read bytes limit samples cuts)
+  unfolding read readBody Refuses taken
+  read-refuses =
       let s = fileSizes bytes in
-      kept samples cuts (ltb (length bytes) 3) 11 _
-      (kept samples cuts (not (sizesFit s)) 1 _
-      (kept samples cuts (beyond limit s) 12 _
-      (kept samples cuts (ltb (length samples) (points s)) 12 _
-      (kept samples cuts (ltb (length cuts) (7 * points s)) 12 _
-      (kept samples cuts (not (wellFormed bytes (points s))) 11 (taken bytes samples cuts s) (λ n. absurd (n refl)))))))
+      refuses samples cuts (ltb (length bytes) 3) 11 _
+      (refuses samples cuts (not (sizesFit s)) 1 _
+      (refuses samples cuts (beyond limit s) 12 _
+      (refuses samples cuts (ltb (length samples) (points s)) 12 _
+      (refuses samples cuts (ltb (length cuts) (7 * points s)) 12 _
+      (refuses samples cuts (not (wellFormed bytes (points s))) 11 (taken bytes samples cuts s) (λ n. absurd (n refl)))))))
 
   -- the code holds the answer
   module _ {r : Read} (p : r ≡ read bytes limit samples cuts .answer) where
     number-is : {k : ℕ} → r .number ≡ k → read bytes limit samples cuts .answer .number ≡ k
     number-is e = sym (ap (λ (r : Read). r .number) p) ∙ e
 
+    refusal-as : (r .number ≡ 0 → ⊥) → (k : ℕ) × (read bytes limit samples cuts ≡ refused samples cuts k)
+    unfolding Refuses
+    refusal-as n = read-refuses (λ z. n (ap (λ (r : Read). r .number) p ∙ z))
+
     pub untouched : (r .number ≡ 0 → ⊥) → Is (read bytes limit samples cuts) r samples cuts
-    unfolding Kept
-    untouched n = (p, read-keeps (λ z. n (ap (λ (r : Read). r .number) p ∙ z)))
+    untouched n = let e = sym (refusal-as n .1) in (p, (ap (λ (o : Outcome). o .samples) e, ap (λ (o : Outcome). o .cuts) e))
 
     pub readable-as : r .number ≡ 0 → Readable bytes limit samples cuts (readSizes r)
     unfolding taken
@@ -115,6 +125,19 @@ module _ (bytes : List ℕ) (limit : ℕ) (samples : List ℤ) (cuts : List ℕ)
         let w = readable (number-is e) in
         let q = p ∙ ap (λ (o : Outcome). o .answer) (w .is) in
         rw (ap (λ (r : Read). readSizes r) q) w
+
+    -- sizes of a block, or zeros
+    pub small-sizes : Small (readSizes r)
+    unfolding refusal
+    small-sizes = elim (lt-or 0 (r .number)) [ inl h ↦ by-refusal (λ z. omega arith) | inr h ↦ by-block (readable-as (omega arith) .sized) ]
+      where
+        by-refusal : (r .number ≡ 0 → ⊥) → Small (readSizes r)
+        by-refusal n =
+            rw (ap (λ (r : Read). readSizes r) (p ∙ ap (λ (o : Outcome). o .answer) (refusal-as n .1)))
+            (record { x = omega arith; y = omega arith; z = omega arith })
+
+        by-block : Sized (readSizes r) → Small (readSizes r)
+        by-block w = record { x = w .x-high; y = w .y-high; z = w .z-high }
 
     -- both tables, written from their first entry on
     pub written : {ss : List ℤ} {cs : List ℕ} {n : ℕ} → r .number ≡ 0 → n ≡ points (readSizes r)
