@@ -35,8 +35,19 @@ pub mod raw {
         pub z: u32,
     }
 
+    /// The answer of `yakuemi_read`.
+    #[repr(C)]
+    #[derive(Clone, Copy, Debug, PartialEq, Eq)]
+    pub struct ReadFile {
+        pub number: u32,
+        pub nx: u32,
+        pub ny: u32,
+        pub nz: u32,
+        pub end: u64,
+    }
+
     mod c {
-        use super::{Filled, Measures, Placed};
+        use super::{Filled, Measures, Placed, ReadFile};
 
         extern "C" {
             pub fn yakuemi_measures(nx: u32, ny: u32, nz: u32) -> Measures;
@@ -65,6 +76,14 @@ pub mod raw {
                 state_len: usize,
                 id: u32,
             ) -> Placed;
+            pub fn yakuemi_read(
+                bytes: *const u8,
+                bytes_len: usize,
+                samples: *mut i16,
+                samples_len: usize,
+                cuts: *mut u8,
+                cuts_len: usize,
+            ) -> ReadFile;
         }
     }
 
@@ -98,6 +117,20 @@ pub mod raw {
         let [nx, ny, nz] = sizes;
         unsafe { c::yakuemi_place(nx, ny, nz, cuts.as_ptr(), cuts.len(), state.as_ptr(), state.len(), id) }
     }
+
+    /// Reading a block file, into tables that the caller lends.
+    pub fn read(bytes: &[u8], samples: &mut [i16], cuts: &mut [u8]) -> ReadFile {
+        unsafe {
+            c::yakuemi_read(
+                bytes.as_ptr(),
+                bytes.len(),
+                samples.as_mut_ptr(),
+                samples.len(),
+                cuts.as_mut_ptr(),
+                cuts.len(),
+            )
+        }
+    }
 }
 
 /// Why a call was refused, with the numbers of document 01.
@@ -123,6 +156,10 @@ pub enum Refusal {
     Code,
     /// 10: the row table holds fewer than 4T numbers. The state table is filled.
     Table { rows: u64, moved: u64 },
+    /// 11: a malformed block file.
+    File,
+    /// 12: a lent table is too short for the block of the file.
+    Room,
     /// A number that the called function does not give.
     Other(u32),
 }
@@ -181,6 +218,15 @@ pub struct Filling {
     pub moved: u64,
 }
 
+/// A block file that was read.
+#[derive(Clone, Copy, Debug, PartialEq, Eq)]
+pub struct BlockRead {
+    /// The sizes of its block.
+    pub sizes: [u32; 3],
+    /// Where in the bytes the file ends.
+    pub end: u64,
+}
+
 /// N and the count of lattice tetrahedra.
 pub fn measures(sizes: [u32; 3]) -> Result<Measures, Refusal> {
     let m = raw::measures(sizes[0], sizes[1], sizes[2]);
@@ -218,6 +264,18 @@ pub fn place(sizes: [u32; 3], cuts: &[u8], state: &[u8], id: u32) -> Result<[u32
         4 => Err(Refusal::State),
         8 => Err(Refusal::Corner),
         9 => Err(Refusal::Code),
+        n => Err(Refusal::Other(n)),
+    }
+}
+
+/// Reads a block file from the start of the bytes into the first N samples and the first 7N cut bytes of the lent tables.
+pub fn read(bytes: &[u8], samples: &mut [i16], cuts: &mut [u8]) -> Result<BlockRead, Refusal> {
+    let r = raw::read(bytes, samples, cuts);
+    match r.number {
+        0 => Ok(BlockRead { sizes: [r.nx, r.ny, r.nz], end: r.end }),
+        1 => Err(Refusal::Size),
+        11 => Err(Refusal::File),
+        12 => Err(Refusal::Room),
         n => Err(Refusal::Other(n)),
     }
 }
