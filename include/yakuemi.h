@@ -42,7 +42,9 @@ enum yakuemi_number {
     YAKUEMI_STRAY = 7,    /* a cut byte is not zero where the skin does not cross, or where no edge is */
     YAKUEMI_CORNER = 8,   /* the id names no corner of a row */
     YAKUEMI_CODE = 9,     /* the point's state byte is not believable */
-    YAKUEMI_TABLE = 10    /* the row table holds fewer than 4T numbers */
+    YAKUEMI_TABLE = 10,   /* the row table holds fewer than 4T numbers */
+    YAKUEMI_FILE = 11,    /* a malformed block file */
+    YAKUEMI_ROOM = 12     /* a lent table is too short for the block in the file */
 };
 
 /* The measures of a block. */
@@ -58,6 +60,38 @@ struct yakuemi_measures {
  * Answers 0 with both counts, or YAKUEMI_SIZE with both 0.
  */
 struct yakuemi_measures yakuemi_measures(uint32_t nx, uint32_t ny, uint32_t nz);
+
+/* The answer of reading a block file. */
+struct yakuemi_read {
+    uint32_t number;
+    uint32_t nx, ny, nz; /* the block's sizes */
+    uint64_t end;        /* where in the bytes the file ends */
+};
+
+/*
+ * Reads a block file from the start of some bytes.
+ *
+ * A block file is three size bytes; N samples of two bytes, two's complement; a count of runs, two bytes; for each run an offset in
+ * the cut table, four bytes, and a length, two; then the bytes of the runs. Numbers have their low byte first. Cut bytes
+ * that no run lists are zero.
+ *
+ * Lengths: at least N samples and 7N cuts, for the sizes in the file. 536769 and 3757383 suffice for every file.
+ *
+ * Answers 0 with the sizes and the end: the first N samples and the first 7N cuts are written, and what follows them stays as it was.
+ * Bytes may follow the file; whoever wants one file and no more compares the end with the length. Or, with sizes and end 0 and
+ * nothing written, the first of these that applies:
+ *
+ *   11         fewer than three bytes
+ *   1          a size outside 1 to 64
+ *   12         a lent table is too short for the block
+ *   11         too few bytes; a run of length 0, past 7N, or starting no later than the first byte after the run before it;
+ *              a zero byte in a run
+ *
+ * Whether samples and cuts fit each other is for filling to say.
+ */
+struct yakuemi_read yakuemi_read(const uint8_t *bytes, size_t bytes_len,
+                                 int16_t *samples, size_t samples_len,
+                                 uint8_t *cuts, size_t cuts_len);
 
 /* The answer of filling. */
 struct yakuemi_filled {

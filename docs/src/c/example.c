@@ -4,6 +4,7 @@
  */
 #include <stdio.h>
 #include <stdlib.h>
+#include <string.h>
 
 #include "yakuemi.h"
 
@@ -80,6 +81,51 @@ static void print_refusals(void)
     print_place(8 * POINTS);
 }
 
+/* Writes a block file of the given case, two bytes a sample and one run for each of eight groups of edges; answers its length. */
+static size_t write_file(uint8_t *file)
+{
+    static const uint8_t runs[8][2] = {{30, 1}, {71, 1}, {84, 1}, {91, 7}, {192, 1}, {200, 1}, {208, 1}, {216, 1}};
+    size_t end = 0;
+    for (int i = 0; i < 3; i++)
+        file[end++] = SIZE;
+    for (size_t p = 0; p < POINTS; p++) {
+        file[end++] = (uint8_t)(samples[p] & 255);
+        file[end++] = samples[p] < 0 ? 255 : 0;
+    }
+    file[end++] = 8;
+    file[end++] = 0;
+    for (int i = 0; i < 8; i++) {
+        const uint8_t run[6] = {runs[i][0], 0, 0, 0, runs[i][1], 0};
+        for (int k = 0; k < 6; k++)
+            file[end++] = run[k];
+    }
+    for (int i = 0; i < 14; i++)
+        file[end++] = 128;
+    return end;
+}
+
+static void print_read(const char *what, const uint8_t *file, size_t length, size_t room)
+{
+    struct yakuemi_read r = yakuemi_read(file, length, samples, room, cuts, sizeof cuts);
+    printf("%s: answer %u, %u by %u by %u cubes, end %lu\n", what, (unsigned)r.number, (unsigned)r.nx, (unsigned)r.ny, (unsigned)r.nz,
+           (unsigned long)r.end);
+}
+
+/* The block again, from a file: whole, cut short, and with too little room. */
+static void print_readings(void)
+{
+    static uint8_t file[256];
+    given_case();
+    size_t length = write_file(file);
+    memset(samples, 0, sizeof samples);
+    memset(cuts, 0, sizeof cuts);
+    print_read("a file cut short", file, length - 1, POINTS);
+    print_read("room for 34 samples", file, length, POINTS - 1);
+    print_read("a file", file, length, POINTS);
+    uint32_t rows[96];
+    print_filled("filled from it", fill(rows, 96));
+}
+
 int main(void)
 {
     struct yakuemi_measures m = yakuemi_measures(SIZE, SIZE, SIZE);
@@ -92,5 +138,6 @@ int main(void)
     if (fill_and_print() != EXIT_SUCCESS)
         return EXIT_FAILURE;
     print_refusals();
+    print_readings();
     return EXIT_SUCCESS;
 }
