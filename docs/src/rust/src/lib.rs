@@ -1,5 +1,37 @@
 //! Safe Rust calls over the static library: slices in, an enum out.
 //!
+//! A point of rubber in the middle of 2 by 2 by 2 cubes, with the skin halfway along its fourteen edges:
+//!
+//! ```
+//! use yakuemi::{fill, measures, place, Refusal};
+//!
+//! let sizes = [2, 2, 2];
+//! let n = measures(sizes)?.points as usize;
+//! let mut samples = vec![-5; n];
+//! samples[13] = 5;
+//! let mut cuts = vec![0; 7 * n];
+//! for offset in [30, 71, 84, 91, 92, 93, 94, 95, 96, 97, 192, 200, 208, 216] {
+//!     cuts[offset] = 128;
+//! }
+//! let mut state = vec![0; n];
+//!
+//! // with no room at all the answer says how many rows there are
+//! let asked = fill(sizes, &samples, &cuts, &mut state, &mut []);
+//! assert_eq!(asked, Err(Refusal::Table { rows: 24, moved: 0 }));
+//!
+//! let mut rows = vec![0; 4 * 24];
+//! let filling = fill(sizes, &samples, &cuts, &mut state, &mut rows)?;
+//! assert_eq!((filling.rows, filling.moved), (24, 0));
+//! assert_eq!(rows[..4], [13, 65, 235, 227]);
+//! assert_eq!(place(sizes, &cuts, &state, 65)?, [512, 512, 256]);
+//!
+//! cuts[91] = 0;
+//! let refusal = fill(sizes, &samples, &cuts, &mut state, &mut rows).unwrap_err();
+//! assert_eq!(refusal, Refusal::Gap(91));
+//! assert_eq!(refusal.to_string(), "refused 6 91");
+//! # Ok::<(), Refusal>(())
+//! ```
+//!
 //! The library has no preconditions, so nothing is tested here. Rust's borrow rules already keep
 //! the lent tables apart. Nothing checks these declarations against the library's source but the
 //! tests that compare its answers with separate software.
@@ -178,6 +210,8 @@ impl Refusal {
             Refusal::Corner => 8,
             Refusal::Code => 9,
             Refusal::Table { .. } => 10,
+            Refusal::File => 11,
+            Refusal::Room => 12,
             Refusal::Other(number) => number,
         }
     }
