@@ -13,10 +13,20 @@ pub struct Block {
     pub cuts: Vec<u8>,
 }
 
-/// Reads a block file of any size from 1 to 64.
+/// The lattice points of the largest block, 64 by 64 by 64 cubes.
+const MOST_POINTS: usize = 536_769;
+
+/// Reads a block file of any size from 1 to 64, which ends where the bytes end.
 pub fn read(file: &[u8]) -> Result<Block, Refusal> {
-    let block = reference::blockfile::read(file, 64).map_err(Refusal::Other)?;
-    Ok(Block { sizes: block.sizes, samples: block.samples, cuts: block.cuts })
+    let (mut samples, mut cuts) = (vec![0; MOST_POINTS], vec![0; 7 * MOST_POINTS]);
+    let reading = yakuemi::read(file, &mut samples, &mut cuts)?;
+    if reading.end != file.len() as u64 {
+        return Err(Refusal::File);
+    }
+    let points = yakuemi::measures(reading.sizes)?.points as usize;
+    samples.truncate(points);
+    cuts.truncate(7 * points);
+    Ok(Block { sizes: reading.sizes, samples, cuts })
 }
 
 /// The state table and the rows of a filled block.
