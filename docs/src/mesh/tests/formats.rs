@@ -5,7 +5,7 @@ use reference::block::Block;
 use reference::blockfile::{fill_block, write};
 use reference::generate::{any_block, block, CUTTINGS, MIXES};
 use reference::random::Random;
-use reference::shapes::mount;
+use reference::shapes::{mount, sphere};
 use std::collections::HashSet;
 
 /// Checks one block through all three formats and answers its mesh.
@@ -45,6 +45,13 @@ fn long_blocks() {
 fn the_mount() {
     let mesh = checked(&mount());
     assert!(mesh.elements.len() > 50_000);
+}
+
+/// 64 by 64 by 64 cubes, with the rows that the papers give for it.
+#[test]
+fn the_largest_sphere() {
+    let mesh = checked(&sphere());
+    assert_eq!(mesh.elements.len(), 1_218_864);
 }
 
 /// The first row of document 01 (P1) and the fifteen nodes: the middle point, and the cuts of its fourteen edges.
