@@ -1,13 +1,20 @@
 /*
  * Yakuemi: fills scanned rubber with tetrahedra, proved.
  *
- * The block. Sizes nx, ny, nz count cubes, each 1 to 64. The lattice points are the cubes' corners, numbered first, and their
- * centres; N is the count of both (yakuemi_measures). A block is
+ * The block. Sizes nx, ny, nz count cubes, each 1 to 64. The lattice points are the cubes' corners and their centres; N is the count
+ * of both (yakuemi_measures). The corner at i, j, k cubes from the origin has number i + (nx+1)(j + (ny+1)k); the centre of the cube with that
+ * lowest corner has number (nx+1)(ny+1)(nz+1) + i + nx(j + ny k). From a point, edges lead in seven directions, here in half cubes, where
+ * a point is at the other end:
+ *
+ *   0 (+2,0,0)   1 (0,+2,0)   2 (0,0,+2)   3 (+1,+1,+1)   4 (-1,+1,+1)   5 (+1,-1,+1)   6 (-1,-1,+1)
+ *
+ * A block's tables, and those that filling writes:
  *
  *   samples   N      signed, one a point: above zero in rubber, below zero in air, zero on the skin
  *   cuts      7N     the edge from point p in direction d (0 to 6) has byte 7p+d: how many 256ths along from p the skin crosses it;
  *                    1 to 255 exactly where one end's sample is above zero and the other's below, else 0
- *   state     N      written: how each point moved, 0 if it did not
+ *   state     N      written: 0 if the point did not move; d+1 if it moved onto the cut of its edge in direction d, d+8 if onto that of
+ *                    the edge that leads to it in direction d
  *   rows      4T     written: the tetrahedra, four ids a row; an id is p for a point, N+7p+d for the cut of an edge
  *
  * A row a b c d has a positive volume: (b-a) x (c-a) . (d-a) is above zero, as VTK, Gmsh and Abaqus want it.
@@ -133,8 +140,8 @@ struct yakuemi_placed {
  * The place of one id, from the sizes, the cuts and the state table that filling left. It writes nothing.
  *
  * Answers 0 with the place, for every id of the rows of a filled block. Or, with the place (0, 0, 0), the first of these
- * that applies: 1, 3, 4; 8 if the id is 8N or more, or is that of a cut whose edge does not exist, has byte 0 or has an end that
- * moved; 9 if the point's state byte is above 14, or names an edge that does not exist, has byte 0 or has its cut too far
+ * that applies: 1, 3, 4; 8 if the id is 8N or more, or is that of a cut whose edge does not exist, has byte 0 or has an end with
+ * a non-zero state byte; 9 if the point's state byte is above 14, or names an edge that does not exist, has byte 0 or has its cut too far
  * from the point to move it.
  */
 struct yakuemi_placed yakuemi_place(uint32_t nx, uint32_t ny, uint32_t nz,
