@@ -4,12 +4,12 @@ use Prim.Native.Nat.{ℕ, _*_, _<_, _≤_}
 use native.Mathlib.Omega.{arith}
 use mathlib.Core.Path.{_≡_, refl, sym, ap, _∙_}
 use mathlib.Core.Logic.{_⊎_, inl, inr}
-use mathlib.Core.Bool.{Bool, true, false, not}
+use mathlib.Core.Bool.{Bool, true, false, not, _&&_}
 use mathlib.Core.List.{List, _++_}
 use lib.IntN.{ℤ}
-use lib.ListN.{length, drop}
+use lib.ListN.{length, drop, length-append}
 use lib.Seq.{sets}
-use lib.Dec.{ltb}
+use lib.Dec.{ltb, eqb}
 use borrow.Author.Tests.{lt-ltb, le-ltb, ltb-false, eq-eqb, ne-eqb, not-false}
 use Rattle.basics.specs.Choice.{if_then_else_}
 use Rattle.basics.proofs.Test.{lt-or}
@@ -168,3 +168,29 @@ module _ (bytes : List ℕ) (limit : ℕ) (samples : List ℤ) (cuts : List ℕ)
     pub whole-all : r .number ≡ 0 → length bytes ≤ r .end → readWhole bytes limit samples cuts ≡ read bytes limit samples cuts
     unfolding readWhole
     whole-all e h = simp (← p, eq-eqb (r .number) 0 e, le-ltb (r .end) (length bytes) h)
+
+  -- a whole file that is taken is read as any other
+  pub whole-is : readWhole bytes limit samples cuts .answer .number ≡ 0 → readWhole bytes limit samples cuts ≡ read bytes limit samples cuts
+  unfolding readWhole
+  whole-is e = passed samples cuts (eqb (o .answer .number) 0 && ltb (o .answer .end) (length bytes)) 11 o (λ z. omega arith) e .1 .0
+    where
+      o : Outcome
+      o = read bytes limit samples cuts
+
+  module _ {r : Read} (p : r ≡ readWhole bytes limit samples cuts .answer) (e : r .number ≡ 0) where
+    whole-as : readWhole bytes limit samples cuts ≡ read bytes limit samples cuts
+    whole-as = whole-is (sym (ap (λ (r : Read). r .number) p) ∙ e)
+
+    pub whole-readable : Readable bytes limit samples cuts (readSizes r)
+    whole-readable = readable-as (p ∙ ap (λ (o : Outcome). o .answer) whole-as) e
+
+    -- the tables hold the block
+    pub whole-samples : {ss : List ℤ} → ss ≡ readWhole bytes limit samples cuts .samples → points (readSizes r) ≤ length ss
+    unfolding taken
+    whole-samples f =
+        rw (f, whole-as, whole-readable .is, length-append) (omega (arith, samples-long bytes 3 (points (readSizes r))))
+
+    pub whole-cuts : {cs : List ℕ} → cs ≡ readWhole bytes limit samples cuts .cuts → 7 * points (readSizes r) ≤ length cs
+    unfolding taken
+    whole-cuts f =
+        rw (f, whole-as, whole-readable .is, length-append) (omega (arith, file-cuts-long bytes (points (readSizes r)) (whole-readable .well)))
