@@ -5,6 +5,7 @@ pub mod Fitting
 pub mod Laid
 pub mod Parts
 pub mod Outcome
+pub mod Checked
 pub mod Stands
 pub mod Rows
 pub mod RoundTrip

@@ -22,6 +22,7 @@ use Rattle.blockfile.specs.Format.{
   taken,
   readBody,
   read,
+  readWhole,
 }
 use Rattle.blockfile.specs.Write.{twoBytes, fourBytes, unsigned, sampleBytes, header, joined, runsOf, listed, write}
 
@@ -29,6 +30,6 @@ unfoldable pub format : Unit {0}
 unfolding
     gather sizesFit cells points
     signed runFits fit lengths noZero twoAt fourAt fileSizes samplesFrom runAt runsFrom cutsFrom end fileCuts wellFormed beyond
-    refusal taken readBody read
+    refusal taken readBody read readWhole
     twoBytes fourBytes unsigned sampleBytes header joined runsOf listed write
 format = tt

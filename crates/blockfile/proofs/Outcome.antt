@@ -2,12 +2,12 @@
 -- Assumes nothing.
 use Prim.Native.Nat.{ℕ, _+_, _*_, _-_, _<_, _≤_}
 use native.Mathlib.Omega.{arith}
-use mathlib.Core.Path.{_≡_, refl, sym, ap, _∙_}
+use mathlib.Core.Path.{_≡_, refl, ap}
 use mathlib.Core.Bool.{true, false}
-use mathlib.Core.List.{List, [], _∷_, _++_}
+use mathlib.Core.List.{List, [], _∷_}
 use lib.IntN.{ℤ}
 use lib.ListN.{length, take, drop, replicate, length-append, length-replicate, length-drop}
-use lib.Seq.{sets, length-take-le}
+use lib.Seq.{length-take-le}
 use borrow.Author.Tests.{lt-ltb, le-ltb}
 use Rattle.lattice.specs.declared.Sizes.{Sizes}
 use Rattle.lattice.specs.Counts.{sizesFit, points}
@@ -32,7 +32,6 @@ use Rattle.blockfile.specs.Format.{
   readBody,
   read,
 }
-use Rattle.blockfile.proofs.Stores.{sets-front}
 use Rattle.blockfile.proofs.Fitting.{fit-head, fit-tail, fit-earlier}
 use Rattle.blockfile.proofs.Parts.{well-formed}
 
@@ -65,18 +64,13 @@ file-cuts-long bytes n e =
     let w = well-formed bytes n e in
     omega (arith, cuts-long bytes (7 * n) 0 (firstByte bytes n) (fileRuns bytes n) (omega arith) (w .fits) (w .long))
 
--- the answer and both tables of an outcome
-abbrev pub Is : Outcome → Read → List ℤ → List ℕ → Type 0
-Is o r samples cuts = (r ≡ o .answer) × ((samples ≡ o .samples) × (cuts ≡ o .cuts))
+-- the answer of an outcome that is known, and of a refusal
+pub answer-of : {o u : Outcome} {r : Read} → o ≡ u → r ≡ u .answer → r ≡ o .answer
+answer-of e p = rw e p
 
--- a refusal, and what is left to show of an outcome that is known
 pub refusal-is : (samples : List ℤ) (cuts : List ℕ) {o : Outcome} {r : Read} (k : ℕ) → o ≡ refused samples cuts k
-    → r ≡ refusal k → Is o r samples cuts
-refusal-is samples cuts k e p =
-    (p ∙ ap (λ (o : Outcome). o .answer) (sym e), (ap (λ (o : Outcome). o .samples) (sym e), ap (λ (o : Outcome). o .cuts) (sym e)))
-
-pub is-of : {o u : Outcome} {r : Read} {samples : List ℤ} {cuts : List ℕ} → o ≡ u → Is u r samples cuts → Is o r samples cuts
-is-of e w = rw e w
+    → r ≡ refusal k → r ≡ o .answer
+refusal-is samples cuts k = answer-of
 
 -- after the size bytes
 module _ (bytes : List ℕ) (samples : List ℤ) (cuts : List ℕ) (s : Sizes) {n : ℕ} (p : n ≡ points s) where
@@ -98,20 +92,11 @@ module _ (bytes : List ℕ) (samples : List ℤ) (cuts : List ℕ) (s : Sizes) {
       unfolding readBody
       taken-is e = simp (← p, le-ltb (length samples) n room, le-ltb (length cuts) (7 * n) roomy, e)
 
-      -- a block that is taken: both tables are written from their first entry on
-      pub take-block : {ss : List ℤ} {cs : List ℕ} {stop : ℕ} → wellFormed bytes n ≡ true
-          → ss ≡ sets samples 0 (samplesFrom bytes 3 n) → cs ≡ sets cuts 0 (fileCuts bytes n) → stop ≡ end bytes n
-          → Is (readBody bytes samples cuts s) (record { number = 0; nx = s .nx; ny = s .ny; nz = s .nz; end = stop }) ss cs
+      pub taken-answer : {stop : ℕ} → wellFormed bytes n ≡ true → stop ≡ end bytes n
+          → record { number = 0; nx = s .nx; ny = s .ny; nz = s .nz; end = stop } ≡ readBody bytes samples cuts s .answer
       unfolding taken
-      take-block {ss} {cs} {stop} e f g h =
-          is-of (taken-is e)
-          (rw (← p) (ap (λ (m : ℕ). record { number = 0; nx = s .nx; ny = s .ny; nz = s .nz; end = m }) h, (f ∙ front, g ∙ back)))
-        where
-          front : sets samples 0 (samplesFrom bytes 3 n) ≡ samplesFrom bytes 3 n ++ drop n samples
-          front = sets-front samples (samplesFrom bytes 3 n) (samples-long bytes 3 n) room
-
-          back : sets cuts 0 (fileCuts bytes n) ≡ fileCuts bytes n ++ drop (7 * n) cuts
-          back = sets-front cuts (fileCuts bytes n) (file-cuts-long bytes n e) roomy
+      taken-answer {stop} e h =
+          rw (taken-is e, ← p) (ap (λ (m : ℕ). record { number = 0; nx = s .nx; ny = s .ny; nz = s .nz; end = m }) h)
 
 module _ (bytes : List ℕ) (limit : ℕ) (samples : List ℤ) (cuts : List ℕ) where
   pub refuse-short : length bytes < 3 → read bytes limit samples cuts ≡ refused samples cuts 11

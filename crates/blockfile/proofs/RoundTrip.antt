@@ -8,11 +8,10 @@ use mathlib.Core.List.{List, _++_}
 use lib.IntN.{ℤ}
 use lib.ListN.{length, take, drop, length-append}
 use lib.Seq.{take-at}
-use borrow.Author.Tests.{le-leb}
 use Rattle.basics.specs.Lists.{gather}
-use Rattle.lattice.specs.declared.Sizes.{Sizes}
-use Rattle.lattice.specs.Counts.{Sized, sizesFit, points}
+use Rattle.lattice.specs.Counts.{points}
 use Rattle.lattice.proofs.Bounds.{points-small}
+use Rattle.lattice.proofs.Sized.{sized-fits}
 use Rattle.moving.specs.Block.{Block}
 use Rattle.blockfile.specs.declared.Run.{Run}
 use Rattle.blockfile.specs.Format.{fit, lengths, noZero, runsFrom, runCount, fileRuns, firstByte, end, fileCuts}
@@ -32,18 +31,6 @@ use Rattle.blockfile.proofs.Stands.{
 use Rattle.blockfile.proofs.Rows.{table-fits, table-lengths, listed-full, table-back}
 use Rattle.blockfile.proofs.Parts.{all-fit}
 use Rattle.blockfile.proofs.Outcome.{taken-is, go-on}
-
-sized-fits : (s : Sizes) → Sized s → sizesFit s ≡ true
-unfolding sizesFit
-sized-fits s h =
-    simp (
-      le-leb 1 (s .nx) (h .x-low),
-      le-leb (s .nx) 64 (h .x-high),
-      le-leb 1 (s .ny) (h .y-low),
-      le-leb (s .ny) 64 (h .y-high),
-      le-leb 1 (s .nz) (h .z-low),
-      le-leb (s .nz) 64 (h .z-high),
-    )
 
 -- the parts of a file, and the places at which they stand
 module _ (b : Block) (rest : List ℕ) where

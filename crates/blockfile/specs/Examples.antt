@@ -5,7 +5,7 @@ use lib.IntN.{ℤ, pos}
 use lib.ListN.{replicate, take}
 use Rattle.basics.specs.Lists.{gather}
 use Rattle.blockfile.specs.declared.Read.{Read}
-use Rattle.blockfile.specs.Format.{read, refusal}
+use Rattle.blockfile.specs.Format.{read, readWhole, refusal}
 
 -- n times the same bytes
 abbrev pub repeated : ℕ → List ℕ → List ℕ
@@ -75,6 +75,19 @@ examples =
     ∷ example (oneCube (0 ∷ 0 ∷ 1 ∷ 1 ∷ 1 ∷ [])) 5 9 63 (oneBlock 23)
     ∷ []
 
+-- the same for a whole file: as long as it should be; a byte more, or another file, is too long; too short; refused before that
+unfoldable pub wholeExamples : List Example
+wholeExamples =
+    example givenFile 5 341 2387 (record { number = 0; nx = 2; ny = 2; nz = 2; end = 137 })
+    ∷ example (givenFile ++ (0 ∷ [])) 5 341 2387 (refusal 11)
+    ∷ example (givenFile ++ givenFile) 5 341 2387 (refusal 11)
+    ∷ example (take 136 givenFile) 5 341 2387 (refusal 11)
+    ∷ example (oneCube (0 ∷ 0 ∷ [])) 5 9 63 (oneBlock 23)
+    ∷ example (oneCube (0 ∷ 0 ∷ 0 ∷ [])) 5 9 63 (refusal 11)
+    ∷ example (0 ∷ 1 ∷ 1 ∷ 0 ∷ []) 5 9 63 (refusal 1)
+    ∷ example (6 ∷ 1 ∷ 1 ∷ 0 ∷ []) 5 9 63 (refusal 12)
+    ∷ []
+
 -- what a table holds before the call
 abbrev pub lentSamples : ℕ → List ℤ
 lentSamples n = replicate n (pos 77)
@@ -84,6 +97,9 @@ lentCuts n = replicate n 99
 
 abbrev pub answered : Example → Read
 answered (example bytes limit room roomy r) = read bytes limit (lentSamples room) (lentCuts roomy) .answer
+
+abbrev pub answeredWhole : Example → Read
+answeredWhole (example bytes limit room roomy r) = readWhole bytes limit (lentSamples room) (lentCuts roomy) .answer
 
 abbrev pub expected : Example → Read
 expected (example bytes limit room roomy r) = r

@@ -1,5 +1,5 @@
 -- Document 01, "The bench program": a block file, and what reading one answers and leaves in the lent tables, for every input.
--- A reader takes a file from the start of the bytes and says where it ends, so "too long" is for whoever knows that no file may follow.
+-- `read` takes a file from the start of the bytes and says where it ends; `readWhole` refuses what is "too long", as the program does.
 use Prim.Native.Nat.{ℕ, zero, suc, _+_, _*_, _-_}
 use mathlib.Core.Bool.{Bool, true, not, _&&_}
 use mathlib.Core.List.{List, [], _∷_, _++_}
@@ -109,6 +109,10 @@ pub record Outcome : Type 0 where
 unfoldable pub refusal : ℕ → Read
 refusal k = record { number = k; nx = 0; ny = 0; nz = 0; end = 0 }
 
+-- the sizes of an answer
+abbrev pub readSizes : Read → Sizes
+readSizes r = record { nx = r .nx; ny = r .ny; nz = r .nz }
+
 -- a refusal writes nothing
 abbrev pub refused : List ℤ → List ℕ → ℕ → Outcome
 refused samples cuts k = record { answer = refusal k; samples = samples; cuts = cuts }
@@ -141,3 +145,9 @@ read bytes limit samples cuts =
     else if not (sizesFit s) then refused samples cuts 1
     else if beyond limit s then refused samples cuts 12
     else body
+
+-- "too long": the file must be all of the bytes
+unfoldable pub readWhole : List ℕ → ℕ → List ℤ → List ℕ → Outcome
+readWhole bytes limit samples cuts =
+    let o = read bytes limit samples cuts in
+    if eqb (o .answer .number) 0 && ltb (o .answer .end) (length bytes) then refused samples cuts 11 else o

@@ -1,4 +1,4 @@
-// A block file: read whole, or refused with nothing written.
+// A block file: read, or refused with nothing written.
 use crate::Read;
 use crate::cuts;
 use crate::numbers;
@@ -11,8 +11,8 @@ ghost use mathlib.Core.Bool.{true};
 ghost use Prim.Native.Nat.{_+_, _*_, _≤_};
 ghost use lib.ListN.{length};
 ghost use lib.Seq.{sets};
-ghost use Rattle.lattice.specs.Counts.{Sized};
-ghost use Rattle.blockfile.specs.Format.{fileSizes, beyond, wellFormed, samplesFrom, fileCuts, read, readBody, refusal};
+ghost use Rattle.lattice.specs.Counts.{Sized, points};
+ghost use Rattle.blockfile.specs.Format.{fileSizes, beyond, wellFormed, samplesFrom, fileCuts, refusal, readBody, read, readSizes, readWhole};
 
 // The sizes with which a file starts.
 fn sizes_of(bytes: &[u8]) -> Sizes
@@ -51,6 +51,18 @@ fn refused(number: u32) -> Read
     }
 }
 
+// N of the sizes that were read.
+fn points_of(r: Read) -> usize
+    requires { ⌜ Sized (readSizes r) ⌝ }
+    ensures { λ n. ⌜ n ≡ points (readSizes r) ⌝ }
+{
+    counts::point_count(Sizes {
+        nx: r.nx,
+        ny: r.ny,
+        nz: r.nz,
+    })
+}
+
 // The tables become those of a well-formed file of n points.
 fn write_tables(bytes: &[u8], n: usize, samples: &mut [i16], cuts: &mut [u8])
     requires { ⌜ (n ≤ 536769) × (wellFormed (now bytes) n ≡ true) ⌝ }
@@ -64,12 +76,10 @@ fn write_tables(bytes: &[u8], n: usize, samples: &mut [i16], cuts: &mut [u8])
     cuts::write_cuts(bytes, head, count, head + 6 * count, 7 * n, cuts);
 }
 
-// What follows the size bytes: read whole into tables that have room for it, or refused.
-fn read_body(bytes: &[u8], s: Sizes, samples: &mut [i16], cuts: &mut [u8]) -> Read
+// The answer for what follows the size bytes: a file that fits the tables, or a refusal.
+fn check_body(bytes: &[u8], s: Sizes, samples: &[i16], cuts: &[u8]) -> Read
     requires { ⌜ Sized s ⌝ }
     ensures { λ r. ⌜ r ≡ readBody (now (bytes .entry)) (now (samples .entry)) (now (cuts .entry)) s .answer ⌝ }
-    ensures { λ _. ⌜ now (samples .exit) ≡ readBody (now (bytes .entry)) (now (samples .entry)) (now (cuts .entry)) s .samples ⌝ }
-    ensures { λ _. ⌜ now (cuts .exit) ≡ readBody (now (bytes .entry)) (now (samples .entry)) (now (cuts .entry)) s .cuts ⌝ }
 {
     let n = counts::point_count(s);
     if samples.len() < n {
@@ -81,7 +91,6 @@ fn read_body(bytes: &[u8], s: Sizes, samples: &mut [i16], cuts: &mut [u8]) -> Re
     if !runs::is_well_formed(bytes, n) {
         return refused(11);
     }
-    write_tables(bytes, n, samples, cuts);
     Read {
         number: 0,
         nx: s.nx,
@@ -91,12 +100,9 @@ fn read_body(bytes: &[u8], s: Sizes, samples: &mut [i16], cuts: &mut [u8]) -> Re
     }
 }
 
-// Reads a block file from the start of the bytes into the first entries of the lent tables, and
-// says where it ends. Everything is checked before anything is written.
-pub fn read(bytes: &[u8], limit: usize, samples: &mut [i16], cuts: &mut [u8]) -> Read
+// The answer of reading a file into these tables; nothing is written yet.
+fn check(bytes: &[u8], limit: usize, samples: &[i16], cuts: &[u8]) -> Read
     ensures { λ r. ⌜ r ≡ read (now (bytes .entry)) limit (now (samples .entry)) (now (cuts .entry)) .answer ⌝ }
-    ensures { λ _. ⌜ now (samples .exit) ≡ read (now (bytes .entry)) limit (now (samples .entry)) (now (cuts .entry)) .samples ⌝ }
-    ensures { λ _. ⌜ now (cuts .exit) ≡ read (now (bytes .entry)) limit (now (samples .entry)) (now (cuts .entry)) .cuts ⌝ }
 {
     if bytes.len() < 3 {
         return refused(11);
@@ -108,5 +114,37 @@ pub fn read(bytes: &[u8], limit: usize, samples: &mut [i16], cuts: &mut [u8]) ->
     if is_beyond(s, limit) {
         return refused(12);
     }
-    read_body(bytes, s, samples, cuts)
+    check_body(bytes, s, samples, cuts)
+}
+
+// Reads a block file from the start of the bytes into the first entries of the lent tables, and
+// says where it ends. Everything is checked before anything is written.
+pub fn read(bytes: &[u8], limit: usize, samples: &mut [i16], cuts: &mut [u8]) -> Read
+    ensures { λ r. ⌜ r ≡ read (now (bytes .entry)) limit (now (samples .entry)) (now (cuts .entry)) .answer ⌝ }
+    ensures { λ _. ⌜ now (samples .exit) ≡ read (now (bytes .entry)) limit (now (samples .entry)) (now (cuts .entry)) .samples ⌝ }
+    ensures { λ _. ⌜ now (cuts .exit) ≡ read (now (bytes .entry)) limit (now (samples .entry)) (now (cuts .entry)) .cuts ⌝ }
+{
+    let r = check(bytes, limit, samples, cuts);
+    if r.number != 0 {
+        return r;
+    }
+    write_tables(bytes, points_of(r), samples, cuts);
+    r
+}
+
+// As `read`, where the file must be all of the bytes: what follows its end is refused.
+pub fn read_whole(bytes: &[u8], limit: usize, samples: &mut [i16], cuts: &mut [u8]) -> Read
+    ensures { λ r. ⌜ r ≡ readWhole (now (bytes .entry)) limit (now (samples .entry)) (now (cuts .entry)) .answer ⌝ }
+    ensures { λ _. ⌜ now (samples .exit) ≡ readWhole (now (bytes .entry)) limit (now (samples .entry)) (now (cuts .entry)) .samples ⌝ }
+    ensures { λ _. ⌜ now (cuts .exit) ≡ readWhole (now (bytes .entry)) limit (now (samples .entry)) (now (cuts .entry)) .cuts ⌝ }
+{
+    let r = check(bytes, limit, samples, cuts);
+    if r.number != 0 {
+        return r;
+    }
+    if r.end < bytes.len() {
+        return refused(11);
+    }
+    write_tables(bytes, points_of(r), samples, cuts);
+    r
 }

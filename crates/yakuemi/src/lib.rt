@@ -3,8 +3,11 @@
 mod fill;
 mod measures;
 mod place;
+mod read;
 
 pub use fill::yakuemi_fill;
 pub use measures::Measures;
 pub use measures::yakuemi_measures;
 pub use place::yakuemi_place;
+pub use read::ReadFile;
+pub use read::yakuemi_read;

@@ -1,5 +1,9 @@
 //! Tests that hold the proved library against the separate software: see `tests/`.
+use reference::damage::Call;
 use reference::fill::Filled;
+use reference::random::Random;
+
+pub mod mutations;
 
 /// The library's filling with the separate software's types, so that both take the same calls.
 pub fn fill(
@@ -18,4 +22,14 @@ pub fn fill(
         moved: f.moved,
         place: f.place,
     }
+}
+
+/// Makes a call of both fillings over the same noise: answer, state table and row table are the same. Answers the number.
+pub fn same_filling(call: &Call, seed: u64) -> u32 {
+    let ours = call.run(fill, &mut Random::new(seed));
+    let theirs = call.run(reference::fill::fill, &mut Random::new(seed));
+    assert_eq!(ours.filled, theirs.filled, "seed {seed}");
+    assert!(ours.state == theirs.state, "state tables differ, seed {seed}");
+    assert!(ours.rows == theirs.rows, "row tables differ, seed {seed}");
+    ours.filled.number
 }

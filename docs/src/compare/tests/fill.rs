@@ -1,28 +1,19 @@
 //! Filling: answer, state table and row table, bit for bit, on valid and damaged blocks, with row tables too short by one,
 //! exact and too long. Lent tables are full of noise beforehand, so that entries which must stay are seen to stay.
+use compare::same_filling;
 use reference::damage::{Call, DAMAGES};
-use reference::fill::fill;
 use reference::generate::{any_block, block, CUTTINGS, MIXES};
 use reference::random::Random;
-
-fn same(call: &Call, seed: u64) -> u32 {
-    let ours = call.run(compare::fill, &mut Random::new(seed));
-    let theirs = call.run(fill, &mut Random::new(seed));
-    assert_eq!(ours.filled, theirs.filled, "seed {seed}");
-    assert!(ours.state == theirs.state, "state tables differ, seed {seed}");
-    assert!(ours.rows == theirs.rows, "row tables differ, seed {seed}");
-    ours.filled.number
-}
 
 /// An exact table, a longer one, and one that is too short by one.
 fn three_tables(call: &mut Call, random: &mut Random) {
     let exact = call.row_length;
-    assert_eq!(same(call, random.bits()), 0);
+    assert_eq!(same_filling(call, random.bits()), 0);
     call.row_length = exact + random.pick(&[1, 3, 4, 17]);
-    assert_eq!(same(call, random.bits()), 0);
+    assert_eq!(same_filling(call, random.bits()), 0);
     if exact > 0 {
         call.row_length = exact - 1;
-        assert_eq!(same(call, random.bits()), 10);
+        assert_eq!(same_filling(call, random.bits()), 10);
     }
 }
 
@@ -70,7 +61,7 @@ fn damaged_blocks() {
                 call.damage(&mut random, &lattice, damage);
             }
         }
-        seen[same(&call, random.bits()) as usize] += 1;
+        seen[same_filling(&call, random.bits()) as usize] += 1;
     }
     for number in [1, 2, 3, 4, 5, 6, 7, 10] {
         assert!(seen[number] > 50, "refusal {number} was seen {} times", seen[number]);

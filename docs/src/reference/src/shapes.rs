@@ -1,4 +1,5 @@
-//! The shapes for timing: a sphere, plain air and a part with thin ribs.
+//! The shapes for timing: a sphere, plain air and a part with thin ribs. And a
+//! part to look at: an engine mount.
 //!
 //! A sample is the signed distance to the skin in 512ths of a cube (the grid
 //! of places), rounded to the nearest whole number. A cut byte is the linear
@@ -18,7 +19,7 @@ pub const SIZE: u32 = 64;
 /// A sphere of radius 28.8 cubes in the middle of the block.
 pub fn sphere() -> Block {
     let middle = f64::from(SIZE) / 2.0;
-    from_distance(SIZE, |at| {
+    from_distance([SIZE; 3], |at| {
         let square = |n: usize| (at[n] - middle).powi(2);
         28.8 - (square(0) + square(1) + square(2)).sqrt()
     })
@@ -37,7 +38,7 @@ pub fn air() -> Block {
 
 /// A part of leaning ribs, one to two cubes thin, on a thin plate.
 pub fn ribs() -> Block {
-    from_distance(SIZE, |[x, y, z]| {
+    from_distance([SIZE; 3], |[x, y, z]| {
         let upright = rib(x + 0.13 * y + 0.07 * z, 4.6);
         let crossing = rib(y - 0.11 * x + 0.05 * z, 9.3);
         let plate = 1.0 - (z - 8.4).abs();
@@ -55,10 +56,45 @@ fn rib(across: f64, spacing: f64) -> f64 {
     thickness / 2.0 - (across - nearest * spacing).abs()
 }
 
-/// A block of `size` cubes each way from a distance, in cubes, that is above
-/// zero inside the part. The rim must lie outside it.
-fn from_distance(size: u32, distance: impl Fn([f64; 3]) -> f64) -> Block {
-    let lattice = Lattice::new(size, size, size).expect("an allowed size");
+/// An engine mount: a ring and a hub, higher than the ring and with a hole for
+/// the bolt, held in it by three legs, all joined by fillets.
+pub fn mount() -> Block {
+    let [middle, height] = [16.0, 20.0];
+    from_distance([32, 32, 20], |[x, y, z]| {
+        let [x, y, z] = [x - middle, y - middle, z - height / 2.0];
+        let radius = x.hypot(y);
+        let ring = rounded_min(1.4 - (radius - 13.0).abs(), 6.0 - z.abs());
+        let hub = rounded_min(1.9 - (radius - 5.3).abs(), 8.3 - z.abs());
+        let leg = |turn: f64| {
+            let (sine, cosine) = (std::f64::consts::TAU * turn / 3.0 + 0.67).sin_cos();
+            let along = x * cosine + y * sine;
+            let across = 1.7 - (y * cosine - x * sine).abs();
+            across.min((along - 5.0).min(12.5 - along))
+        };
+        let legs = rounded_min(leg(0.0).max(leg(1.0)).max(leg(2.0)), 4.6 - z.abs());
+        rounded_max(rounded_max(ring, legs), hub)
+    })
+}
+
+/// How far the fillets and rounded edges of the mount reach, in cubes.
+const FILLET: f64 = 1.2;
+
+/// The smaller of two distances, with the edge where they meet rounded off.
+fn rounded_min(a: f64, b: f64) -> f64 {
+    let near = (FILLET - (a - b).abs()).max(0.0) / FILLET;
+    a.min(b) - near * near * FILLET / 4.0
+}
+
+/// The larger of two distances, with a fillet where they meet.
+fn rounded_max(a: f64, b: f64) -> f64 {
+    -rounded_min(-a, -b)
+}
+
+/// A block from a distance, in cubes, that is above zero inside the part. The
+/// rim must lie outside it.
+fn from_distance(sizes: [u32; 3], distance: impl Fn([f64; 3]) -> f64) -> Block {
+    let [nx, ny, nz] = sizes;
+    let lattice = Lattice::new(nx, ny, nz).expect("allowed sizes");
     let samples: Vec<i16> = (0..lattice.point_count())
         .map(|point| {
             let at = lattice.coordinates(point).map(|c| f64::from(c) / 2.0);
@@ -68,7 +104,7 @@ fn from_distance(size: u32, distance: impl Fn([f64; 3]) -> f64) -> Block {
         .collect();
     let cuts = cuts_where_needed(&lattice, &samples, interpolate);
     Block {
-        sizes: [size; 3],
+        sizes,
         samples,
         cuts,
     }

@@ -1,5 +1,37 @@
 //! Safe Rust calls over the static library: slices in, an enum out.
 //!
+//! A point of rubber in the middle of 2 by 2 by 2 cubes, with the skin halfway along its fourteen edges:
+//!
+//! ```
+//! use yakuemi::{fill, measures, place, Refusal};
+//!
+//! let sizes = [2, 2, 2];
+//! let n = measures(sizes)?.points as usize;
+//! let mut samples = vec![-5; n];
+//! samples[13] = 5;
+//! let mut cuts = vec![0; 7 * n];
+//! for offset in [30, 71, 84, 91, 92, 93, 94, 95, 96, 97, 192, 200, 208, 216] {
+//!     cuts[offset] = 128;
+//! }
+//! let mut state = vec![0; n];
+//!
+//! // with no room at all the answer says how many rows there are
+//! let asked = fill(sizes, &samples, &cuts, &mut state, &mut []);
+//! assert_eq!(asked, Err(Refusal::Table { rows: 24, moved: 0 }));
+//!
+//! let mut rows = vec![0; 4 * 24];
+//! let filling = fill(sizes, &samples, &cuts, &mut state, &mut rows)?;
+//! assert_eq!((filling.rows, filling.moved), (24, 0));
+//! assert_eq!(rows[..4], [13, 65, 235, 227]);
+//! assert_eq!(place(sizes, &cuts, &state, 65)?, [512, 512, 256]);
+//!
+//! cuts[91] = 0;
+//! let refusal = fill(sizes, &samples, &cuts, &mut state, &mut rows).unwrap_err();
+//! assert_eq!(refusal, Refusal::Gap(91));
+//! assert_eq!(refusal.to_string(), "refused 6 91");
+//! # Ok::<(), Refusal>(())
+//! ```
+//!
 //! The library has no preconditions, so nothing is tested here. Rust's borrow rules already keep
 //! the lent tables apart. Nothing checks these declarations against the library's source but the
 //! tests that compare its answers with separate software.
@@ -35,8 +67,19 @@ pub mod raw {
         pub z: u32,
     }
 
+    /// The answer of `yakuemi_read`.
+    #[repr(C)]
+    #[derive(Clone, Copy, Debug, PartialEq, Eq)]
+    pub struct ReadFile {
+        pub number: u32,
+        pub nx: u32,
+        pub ny: u32,
+        pub nz: u32,
+        pub end: u64,
+    }
+
     mod c {
-        use super::{Filled, Measures, Placed};
+        use super::{Filled, Measures, Placed, ReadFile};
 
         extern "C" {
             pub fn yakuemi_measures(nx: u32, ny: u32, nz: u32) -> Measures;
@@ -65,6 +108,14 @@ pub mod raw {
                 state_len: usize,
                 id: u32,
             ) -> Placed;
+            pub fn yakuemi_read(
+                bytes: *const u8,
+                bytes_len: usize,
+                samples: *mut i16,
+                samples_len: usize,
+                cuts: *mut u8,
+                cuts_len: usize,
+            ) -> ReadFile;
         }
     }
 
@@ -98,6 +149,20 @@ pub mod raw {
         let [nx, ny, nz] = sizes;
         unsafe { c::yakuemi_place(nx, ny, nz, cuts.as_ptr(), cuts.len(), state.as_ptr(), state.len(), id) }
     }
+
+    /// Reading a block file, into tables that the caller lends.
+    pub fn read(bytes: &[u8], samples: &mut [i16], cuts: &mut [u8]) -> ReadFile {
+        unsafe {
+            c::yakuemi_read(
+                bytes.as_ptr(),
+                bytes.len(),
+                samples.as_mut_ptr(),
+                samples.len(),
+                cuts.as_mut_ptr(),
+                cuts.len(),
+            )
+        }
+    }
 }
 
 /// Why a call was refused, with the numbers of document 01.
@@ -123,9 +188,51 @@ pub enum Refusal {
     Code,
     /// 10: the row table holds fewer than 4T numbers. The state table is filled.
     Table { rows: u64, moved: u64 },
+    /// 11: a malformed block file.
+    File,
+    /// 12: a lent table is too short for the block of the file.
+    Room,
     /// A number that the called function does not give.
     Other(u32),
 }
+
+impl Refusal {
+    /// The number of document 01.
+    pub fn number(self) -> u32 {
+        match self {
+            Refusal::Size => 1,
+            Refusal::Samples => 2,
+            Refusal::Cuts => 3,
+            Refusal::State => 4,
+            Refusal::Rim(_) => 5,
+            Refusal::Gap(_) => 6,
+            Refusal::Stray(_) => 7,
+            Refusal::Corner => 8,
+            Refusal::Code => 9,
+            Refusal::Table { .. } => 10,
+            Refusal::File => 11,
+            Refusal::Room => 12,
+            Refusal::Other(number) => number,
+        }
+    }
+
+    /// The point or the byte at fault, 0 where there is none to name.
+    pub fn place(self) -> u64 {
+        match self {
+            Refusal::Rim(place) | Refusal::Gap(place) | Refusal::Stray(place) => place,
+            _ => 0,
+        }
+    }
+}
+
+/// As the bench program prints it: `refused 6 91`.
+impl std::fmt::Display for Refusal {
+    fn fmt(&self, f: &mut std::fmt::Formatter) -> std::fmt::Result {
+        write!(f, "refused {} {}", self.number(), self.place())
+    }
+}
+
+impl std::error::Error for Refusal {}
 
 /// The measures of a block.
 #[derive(Clone, Copy, Debug, PartialEq, Eq)]
@@ -143,6 +250,15 @@ pub struct Filling {
     pub rows: u64,
     /// M, the points moved.
     pub moved: u64,
+}
+
+/// A block file that was read.
+#[derive(Clone, Copy, Debug, PartialEq, Eq)]
+pub struct BlockRead {
+    /// The sizes of its block.
+    pub sizes: [u32; 3],
+    /// Where in the bytes the file ends.
+    pub end: u64,
 }
 
 /// N and the count of lattice tetrahedra.
@@ -182,6 +298,18 @@ pub fn place(sizes: [u32; 3], cuts: &[u8], state: &[u8], id: u32) -> Result<[u32
         4 => Err(Refusal::State),
         8 => Err(Refusal::Corner),
         9 => Err(Refusal::Code),
+        n => Err(Refusal::Other(n)),
+    }
+}
+
+/// Reads a block file from the start of the bytes into the first N samples and the first 7N cut bytes of the lent tables.
+pub fn read(bytes: &[u8], samples: &mut [i16], cuts: &mut [u8]) -> Result<BlockRead, Refusal> {
+    let r = raw::read(bytes, samples, cuts);
+    match r.number {
+        0 => Ok(BlockRead { sizes: [r.nx, r.ny, r.nz], end: r.end }),
+        1 => Err(Refusal::Size),
+        11 => Err(Refusal::File),
+        12 => Err(Refusal::Room),
         n => Err(Refusal::Other(n)),
     }
 }

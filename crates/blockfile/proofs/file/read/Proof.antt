@@ -1,55 +1,13 @@
--- Each way out by the checks that led there. Assumes nothing.
-use mathlib.Core.Path.{sym, _∙_}
+-- A refusal is handed on; a file that passed the checks is written. Assumes nothing.
+use native.Mathlib.Omega.{arith}
 use borrow.Author.Needs.{needs}
-use borrow.Author.Tests.{not-true, not-false}
-use Rattle.lattice.proofs.Sized.{fits-sized}
-use Rattle.blockfile.proofs.Outcome.{refusal-is, is-of, refuse-short, refuse-size, refuse-bench, go-on}
+use Rattle.lattice.proofs.Bounds.{points-small}
+use Rattle.blockfile.proofs.Checked.{untouched, readable-as, written}
 use Rattle.blockfile.proofs.file.read.Statement.{statement}
 use Rattle.blockfile.proofs.file.read.Tie as tie
 
-refused-requires : tie.Need-refused-requires
-refused-requires c κs = search needs
-
-returns : tie.Need-returns
-returns c =
-    refusal-is _ _ 11 (refuse-short _ _ _ _ (c .before .if1 .taken)) (c .refused .ensures)
-
-sizes-of-requires : tie.Need-sizes-of-requires
-sizes-of-requires c κs = search needs
-
-sizes-fit-requires : tie.Need-sizes-fit-requires
-sizes-fit-requires c κs = search needs
-
-refused-requires-2 : tie.Need-refused-requires-2
-refused-requires-2 c κs = search needs
-
-returns-2 : tie.Need-returns-2
-returns-2 c =
-    let g = c .before .before .before in
-    refusal-is _ _ 1
-    (refuse-size _ _ _ _ (g .sizes-of .ensures) (g .before .if1 .left)
-    (sym (c .before .before .sizes-fit .ensures) ∙ not-true _ (c .before .if2 .taken)))
-    (c .refused2 .ensures)
-
-is-beyond-requires : tie.Need-is-beyond-requires
-is-beyond-requires c κs = search needs
-
-refused-requires-3 : tie.Need-refused-requires-3
-refused-requires-3 c κs = search needs
-
-returns-3 : tie.Need-returns-3
-returns-3 c =
-    let g = c .before .before .before in
-    refusal-is _ _ 12
-    (refuse-bench _ _ _ _ (g .before .before .sizes-of .ensures) (g .before .before .before .if1 .left)
-    (sym (g .before .sizes-fit .ensures) ∙ not-false _ (g .if2 .left))
-    (sym (c .before .before .is-beyond .ensures) ∙ c .before .if3 .taken))
-    (c .refused3 .ensures)
-
-read-body-requires : tie.Need-read-body-requires
-read-body-requires c κs =
-    let g = c .before .before .before .before in
-    fits-sized _ (sym (g .before .sizes-fit .ensures) ∙ not-false _ (g .if2 .left))
+check-requires : tie.Need-check-requires
+check-requires c κs = search needs
 
 same-length : tie.Need-same-length
 same-length c = search needs
@@ -57,30 +15,41 @@ same-length c = search needs
 same-length-2 : tie.Need-same-length-2
 same-length-2 c = search needs
 
-returns-4 : tie.Need-returns-4
-returns-4 c =
-    let h = c .before .before .before .before .before .before in
-    let g = h .before .before in
-    is-of
-    (go-on _ _ _ _ (g .before .before .sizes-of .ensures) (g .before .before .before .if1 .left)
-    (sym (g .before .sizes-fit .ensures) ∙ not-false _ (g .if2 .left))
-    (sym (h .before .is-beyond .ensures) ∙ h .if3 .left))
-    (c .before .before .before .read-body .ensures)
+returns : tie.Need-returns
+returns c = untouched _ _ _ _ (c .before .before .check .ensures) (c .if1 .taken)
+
+points-of-requires : tie.Need-points-of-requires
+points-of-requires c κs = readable-as _ _ _ _ (c .before .before .check .ensures) (c .if1 .left) .sized
+
+write-tables-requires : tie.Need-write-tables-requires
+write-tables-requires c κs =
+    let g = c .before .before in
+    let w = readable-as _ _ _ _ (g .before .before .before .check .ensures) (g .before .if1 .left) in
+    let n = g .points-of .ensures in
+    ((omega (arith, n, points-small _ (w .sized)), rw n (w .well)), (omega (arith, n, w .room), omega (arith, n, w .roomy)))
+
+same-length-3 : tie.Need-same-length-3
+same-length-3 c = search needs
+
+same-length-4 : tie.Need-same-length-4
+same-length-4 c = search needs
+
+returns-2 : tie.Need-returns-2
+returns-2 c =
+    let t = c .before .before .before .write-tables .ensures in
+    let g = c .before .before .before .before .before .before in
+    written _ _ _ _ (g .before .before .before .check .ensures) (g .before .if1 .left) (g .points-of .ensures) (t .0) (t .1)
 
 pub read-spec : {M : Type 1} → statement M
 read-spec =
     tie.close
     (tie.spec
-    refused-requires
-    returns
-    sizes-of-requires
-    sizes-fit-requires
-    refused-requires-2
-    returns-2
-    is-beyond-requires
-    refused-requires-3
-    returns-3
-    read-body-requires
+    check-requires
     same-length
     same-length-2
-    returns-4)
+    returns
+    points-of-requires
+    write-tables-requires
+    same-length-3
+    same-length-4
+    returns-2)

@@ -5,9 +5,9 @@ use borrow.Author.Needs.{needs}
 use borrow.Author.Tests.{not-true, not-false}
 use Rattle.lattice.proofs.Bounds.{points-small}
 use Rattle.blockfile.proofs.Parts.{well-formed, first-end}
-use Rattle.blockfile.proofs.Outcome.{refusal-is, refuse-samples, refuse-cuts, refuse-file, take-block}
-use Rattle.blockfile.proofs.file.read_body.Statement.{statement}
-use Rattle.blockfile.proofs.file.read_body.Tie as tie
+use Rattle.blockfile.proofs.Outcome.{refusal-is, refuse-samples, refuse-cuts, refuse-file, taken-answer}
+use Rattle.blockfile.proofs.file.check_body.Statement.{statement}
+use Rattle.blockfile.proofs.file.check_body.Tie as tie
 
 point-count-requires : tie.Need-point-count-requires
 point-count-requires c κs = search needs
@@ -48,40 +48,23 @@ returns-3 c =
     (c .before .before .before .if2 .left) (sym (c .before .before .is-well-formed .ensures) ∙ not-true _ (c .before .if3 .taken)))
     (c .refused3 .ensures)
 
-write-tables-requires : tie.Need-write-tables-requires
-write-tables-requires c κs =
-    let g = c .before .before in
-    let a = g .before .before .before .before in
-    let small = points-small (a .before .before .before .args .s) (a .before .before .before .pre) in (
-      (omega (arith, small, a .point-count .ensures), sym (g .before .is-well-formed .ensures) ∙ not-false _ (g .if3 .left)),
-      (g .before .before .before .if1 .left, g .before .before .if2 .left),
-    )
-
 end-of-requires : tie.Need-end-of-requires
 end-of-requires c κs =
-    let a = c .before .before .before .before .before .before .before .before .before .before in
-    let g = c .before .before .before .before .before .before in
+    let a = c .before .before .before .before in
     let small = points-small (a .before .before .before .args .s) (a .before .before .before .pre) in
     let bytes = a .before .before .before .args .bytes .now in
-    let w = well-formed bytes (a .point-count .result) (sym (g .before .is-well-formed .ensures) ∙ not-false _ (g .if3 .left)) in
+    let w = well-formed bytes (a .point-count .result) (sym (c .before .is-well-formed .ensures) ∙ not-false _ (c .if3 .left)) in
     (omega (arith, small, a .point-count .ensures), omega (arith, w .long, first-end bytes (a .point-count .result)))
-
-same-length : tie.Need-same-length
-same-length c = search needs
-
-same-length-2 : tie.Need-same-length-2
-same-length-2 c = search needs
 
 returns-4 : tie.Need-returns-4
 returns-4 c =
-    let t = c .before .before .before .before .write-tables .ensures in
-    let g = c .before .before .before .before .before .before .before in
-    let a = g .before .before .before .before in
-    take-block _ _ _ _ (a .point-count .ensures) (g .before .before .before .if1 .left) (g .before .before .if2 .left)
-    (sym (g .before .is-well-formed .ensures) ∙ not-false _ (g .if3 .left)) (t .0) (t .1) (c .end-of .ensures)
+    let g = c .before in
+    taken-answer _ _ _ _ (g .before .before .before .before .point-count .ensures) (g .before .before .before .if1 .left)
+    (g .before .before .if2 .left)
+    (sym (g .before .is-well-formed .ensures) ∙ not-false _ (g .if3 .left)) (c .end-of .ensures)
 
-pub read-body-spec : {M : Type 1} → statement M
-read-body-spec =
+pub check-body-spec : {M : Type 1} → statement M
+check-body-spec =
     tie.close
     (tie.spec
     point-count-requires
@@ -93,8 +76,5 @@ read-body-spec =
     is-well-formed-requires
     refused-requires-3
     returns-3
-    write-tables-requires
     end-of-requires
-    same-length
-    same-length-2
     returns-4)

@@ -1,0 +1,143 @@
+/*
+ * Every call of the library once, on document 01's given case: one point of rubber in the middle of 2 by 2 by 2 cubes, with the
+ * skin halfway along its fourteen edges. What it prints is held against example.out in the gate.
+ */
+#include <stdio.h>
+#include <stdlib.h>
+#include <string.h>
+
+#include "yakuemi.h"
+
+enum { SIZE = 2, POINTS = 35, MIDDLE = 13 };
+
+static int16_t samples[POINTS];
+static uint8_t cuts[7 * POINTS];
+static uint8_t state[POINTS];
+
+/* The fourteen edges of the middle point: the offsets of their cut bytes. */
+static const size_t crossed[] = {30, 71, 84, 91, 92, 93, 94, 95, 96, 97, 192, 200, 208, 216};
+
+static void given_case(void)
+{
+    for (size_t p = 0; p < POINTS; p++)
+        samples[p] = p == MIDDLE ? 5 : -5;
+    for (size_t i = 0; i < sizeof crossed / sizeof *crossed; i++)
+        cuts[crossed[i]] = 128;
+}
+
+static struct yakuemi_filled fill(uint32_t *rows, size_t length)
+{
+    return yakuemi_fill(SIZE, SIZE, SIZE, samples, POINTS, cuts, sizeof cuts, state, sizeof state, rows, length);
+}
+
+static void print_filled(const char *what, struct yakuemi_filled f)
+{
+    printf("%s: answer %u, T %lu, M %lu, place %lu\n", what, (unsigned)f.number, (unsigned long)f.rows, (unsigned long)f.moved,
+           (unsigned long)f.place);
+}
+
+static void print_place(uint32_t id)
+{
+    struct yakuemi_placed p = yakuemi_place(SIZE, SIZE, SIZE, cuts, sizeof cuts, state, sizeof state, id);
+    printf("place of id %lu: answer %u, (%u, %u, %u)\n", (unsigned long)id, (unsigned)p.number, (unsigned)p.x, (unsigned)p.y,
+           (unsigned)p.z);
+}
+
+/* Asks for T with no room at all, then lends a table of just that length. */
+static int fill_and_print(void)
+{
+    uint32_t none = 0;
+    struct yakuemi_filled asked = fill(&none, 0);
+    print_filled("no room", asked);
+    uint32_t *rows = malloc(4 * (size_t)asked.rows * sizeof *rows);
+    if (rows == NULL)
+        return EXIT_FAILURE;
+    print_filled("filled", fill(rows, 4 * (size_t)asked.rows));
+    printf("first row: %lu %lu %lu %lu\n", (unsigned long)rows[0], (unsigned long)rows[1], (unsigned long)rows[2],
+           (unsigned long)rows[3]);
+    for (int i = 0; i < 4; i++)
+        print_place(rows[i]);
+    free(rows);
+    return EXIT_SUCCESS;
+}
+
+/* The same block with one thing wrong at a time; each is put right again. */
+static void print_refusals(void)
+{
+    uint32_t rows[96];
+    cuts[91] = 0;
+    print_filled("byte 91 is zero", fill(rows, 96));
+    cuts[91] = 128;
+    cuts[0] = 7;
+    print_filled("byte 0 is 7", fill(rows, 96));
+    cuts[0] = 0;
+    samples[27] = 1;
+    print_filled("sample 27 is 1", fill(rows, 96));
+    samples[27] = -5;
+    print_filled("room for 95 numbers", fill(rows, 95));
+    cuts[91] = 63;
+    print_filled("byte 91 is 63", fill(rows, 96));
+    print_place(MIDDLE);
+    print_place(8 * POINTS);
+}
+
+/* Writes a block file of the given case, two bytes a sample and one run for each of eight groups of edges; answers its length. */
+static size_t write_file(uint8_t *file)
+{
+    static const uint8_t runs[8][2] = {{30, 1}, {71, 1}, {84, 1}, {91, 7}, {192, 1}, {200, 1}, {208, 1}, {216, 1}};
+    size_t end = 0;
+    for (int i = 0; i < 3; i++)
+        file[end++] = SIZE;
+    for (size_t p = 0; p < POINTS; p++) {
+        file[end++] = (uint8_t)(samples[p] & 255);
+        file[end++] = samples[p] < 0 ? 255 : 0;
+    }
+    file[end++] = 8;
+    file[end++] = 0;
+    for (int i = 0; i < 8; i++) {
+        const uint8_t run[6] = {runs[i][0], 0, 0, 0, runs[i][1], 0};
+        for (int k = 0; k < 6; k++)
+            file[end++] = run[k];
+    }
+    for (int i = 0; i < 14; i++)
+        file[end++] = 128;
+    return end;
+}
+
+static void print_read(const char *what, const uint8_t *file, size_t length, size_t room)
+{
+    struct yakuemi_read r = yakuemi_read(file, length, samples, room, cuts, sizeof cuts);
+    printf("%s: answer %u, %u by %u by %u cubes, end %lu\n", what, (unsigned)r.number, (unsigned)r.nx, (unsigned)r.ny, (unsigned)r.nz,
+           (unsigned long)r.end);
+}
+
+/* The block again, from a file: whole, cut short, and with too little room. */
+static void print_readings(void)
+{
+    static uint8_t file[256];
+    given_case();
+    size_t length = write_file(file);
+    memset(samples, 0, sizeof samples);
+    memset(cuts, 0, sizeof cuts);
+    print_read("a file cut short", file, length - 1, POINTS);
+    print_read("room for 34 samples", file, length, POINTS - 1);
+    print_read("a file", file, length, POINTS);
+    uint32_t rows[96];
+    print_filled("filled from it", fill(rows, 96));
+}
+
+int main(void)
+{
+    struct yakuemi_measures m = yakuemi_measures(SIZE, SIZE, SIZE);
+    printf("measures: answer %u, points %lu, lattice %lu\n", (unsigned)m.number, (unsigned long)m.points,
+           (unsigned long)m.tetrahedra);
+    m = yakuemi_measures(SIZE, SIZE, 65);
+    printf("a size of 65: answer %u, points %lu, lattice %lu\n", (unsigned)m.number, (unsigned long)m.points,
+           (unsigned long)m.tetrahedra);
+    given_case();
+    if (fill_and_print() != EXIT_SUCCESS)
+        return EXIT_FAILURE;
+    print_refusals();
+    print_readings();
+    return EXIT_SUCCESS;
+}

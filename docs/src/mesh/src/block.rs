@@ -1,0 +1,74 @@
+//! Reading and filling a block file through the library.
+
+use crate::{Mesh, Place};
+use yakuemi::Refusal;
+
+/// A block that was read from a file.
+pub struct Block {
+    /// nx, ny, nz.
+    pub sizes: [u32; 3],
+    /// One sample a lattice point.
+    pub samples: Vec<i16>,
+    /// Seven bytes a lattice point.
+    pub cuts: Vec<u8>,
+}
+
+/// The lattice points of the largest block, 64 by 64 by 64 cubes.
+const MOST_POINTS: usize = 536_769;
+
+/// Reads a block file of any size from 1 to 64, which ends where the bytes end.
+pub fn read(file: &[u8]) -> Result<Block, Refusal> {
+    let (mut samples, mut cuts) = (vec![0; MOST_POINTS], vec![0; 7 * MOST_POINTS]);
+    let reading = yakuemi::read(file, &mut samples, &mut cuts)?;
+    if reading.end != file.len() as u64 {
+        return Err(Refusal::File);
+    }
+    let points = yakuemi::measures(reading.sizes)?.points as usize;
+    samples.truncate(points);
+    cuts.truncate(7 * points);
+    Ok(Block { sizes: reading.sizes, samples, cuts })
+}
+
+/// The state table and the rows of a filled block.
+pub struct Filled {
+    /// How each lattice point moved.
+    pub state: Vec<u8>,
+    /// The ids of the rows, four a row.
+    pub rows: Vec<u32>,
+}
+
+/// Fills a block: asks how many rows it has, then lends a table of just that length.
+pub fn fill(block: &Block) -> Result<Filled, Refusal> {
+    let mut state = vec![0; block.samples.len()];
+    let mut rows = Vec::new();
+    if let Err(refusal) = yakuemi::fill(block.sizes, &block.samples, &block.cuts, &mut state, &mut rows) {
+        let Refusal::Table { rows: count, .. } = refusal else {
+            return Err(refusal);
+        };
+        rows = vec![0; 4 * count as usize];
+        yakuemi::fill(block.sizes, &block.samples, &block.cuts, &mut state, &mut rows)?;
+    }
+    Ok(Filled { state, rows })
+}
+
+/// The mesh of a filled block: its nodes are the ids that the rows name, ascending.
+pub fn mesh(block: &Block, filled: &Filled) -> Result<Mesh, Refusal> {
+    let mut ids = filled.rows.clone();
+    ids.sort_unstable();
+    ids.dedup();
+    let place = |&id: &u32| yakuemi::place(block.sizes, &block.cuts, &filled.state, id);
+    let nodes = ids.iter().map(place).collect::<Result<Vec<Place>, Refusal>>()?;
+    let mut node_of = vec![0; ids.last().map_or(0, |&id| id as usize + 1)];
+    for (node, &id) in ids.iter().enumerate() {
+        node_of[id as usize] = node;
+    }
+    let (rows, _) = filled.rows.as_chunks::<4>();
+    let elements = rows.iter().map(|row| row.map(|id| node_of[id as usize])).collect();
+    Ok(Mesh { nodes, elements })
+}
+
+/// The mesh of a block file.
+pub fn mesh_of_file(file: &[u8]) -> Result<Mesh, Refusal> {
+    let block = read(file)?;
+    mesh(&block, &fill(&block)?)
+}

@@ -1,0 +1,156 @@
+/*
+ * Yakuemi: fills scanned rubber with tetrahedra, proved.
+ *
+ * The block. Sizes nx, ny, nz count cubes, each 1 to 64. The lattice points are the cubes' corners and their centres; N is the count
+ * of both (yakuemi_measures). The corner at i, j, k cubes from the origin has number i + (nx+1)(j + (ny+1)k); the centre of the cube with that
+ * lowest corner has number (nx+1)(ny+1)(nz+1) + i + nx(j + ny k). From a point, edges lead in seven directions, here in half cubes, where
+ * a point is at the other end:
+ *
+ *   0 (+2,0,0)   1 (0,+2,0)   2 (0,0,+2)   3 (+1,+1,+1)   4 (-1,+1,+1)   5 (+1,-1,+1)   6 (-1,-1,+1)
+ *
+ * A block's tables, and those that filling writes:
+ *
+ *   samples   N      signed, one a point: above zero in rubber, below zero in air, zero on the skin
+ *   cuts      7N     the edge from point p in direction d (0 to 6) has byte 7p+d: how many 256ths along from p the skin crosses it;
+ *                    1 to 255 exactly where one end's sample is above zero and the other's below, else 0
+ *   state     N      written: 0 if the point did not move; d+1 if it moved onto the cut of its edge in direction d, d+8 if onto that of
+ *                    the edge that leads to it in direction d
+ *   rows      4T     written: the tetrahedra, four ids a row; an id is p for a point, N+7p+d for the cut of an edge
+ *
+ * A row a b c d has a positive volume: (b-a) x (c-a) . (d-a) is above zero, as VTK, Gmsh and Abaqus want it.
+ *
+ * Tables. A table is a pointer and its length in entries, not in bytes. The pointer must be valid for that many entries, aligned
+ * for its type, and not null even where the length is 0 (nothing is read or written through it then). Tables that are lent to one
+ * call must not overlap. That is all that is asked: whatever sizes, lengths, contents and ids are handed in, the call ends with
+ * an answer, touches nothing but the tables it was lent, keeps nothing, allocates nothing and uses no global state, so calls
+ * on different tables may run at the same time.
+ *
+ * Answers. Every call answers a struct by value. Its number is 0, or one of the refusals below.
+ */
+#ifndef YAKUEMI_H
+#define YAKUEMI_H
+
+#include <stddef.h>
+#include <stdint.h>
+
+#ifdef __cplusplus
+extern "C" {
+#endif
+
+/* The numbers of the answers. */
+enum yakuemi_number {
+    YAKUEMI_DONE = 0,     /* carried out */
+    YAKUEMI_SIZE = 1,     /* a size is outside 1 to 64 */
+    YAKUEMI_SAMPLES = 2,  /* not N samples */
+    YAKUEMI_CUTS = 3,     /* the cut table has not 7N bytes */
+    YAKUEMI_STATE = 4,    /* the state table has not N bytes */
+    YAKUEMI_RIM = 5,      /* a rim point's sample is above zero: a corner on the block's outside, or the centre of an outer cube */
+    YAKUEMI_GAP = 6,      /* a cut byte is zero where the skin crosses */
+    YAKUEMI_STRAY = 7,    /* a cut byte is not zero where the skin does not cross, or where no edge is */
+    YAKUEMI_CORNER = 8,   /* the id names no corner of a row */
+    YAKUEMI_CODE = 9,     /* the point's state byte is not believable */
+    YAKUEMI_TABLE = 10,   /* the row table holds fewer than 4T numbers */
+    YAKUEMI_FILE = 11,    /* a malformed block file */
+    YAKUEMI_ROOM = 12     /* a lent table is too short for the block in the file */
+};
+
+/* The measures of a block. */
+struct yakuemi_measures {
+    uint32_t number;
+    uint64_t points;     /* N */
+    uint64_t tetrahedra; /* the lattice tetrahedra; none gives more than three rows */
+};
+
+/*
+ * How long the tables of a block of nx by ny by nz cubes must be.
+ *
+ * Answers 0 with both counts, or YAKUEMI_SIZE with both 0.
+ */
+struct yakuemi_measures yakuemi_measures(uint32_t nx, uint32_t ny, uint32_t nz);
+
+/* The answer of reading a block file. */
+struct yakuemi_read {
+    uint32_t number;
+    uint32_t nx, ny, nz; /* the block's sizes */
+    uint64_t end;        /* where in the bytes the file ends */
+};
+
+/*
+ * Reads a block file from the start of some bytes.
+ *
+ * A block file is three size bytes; N samples of two bytes, two's complement; a count of runs, two bytes; for each run an offset in
+ * the cut table, four bytes, and a length, two; then the bytes of the runs. Numbers have their low byte first. Cut bytes
+ * that no run lists are zero.
+ *
+ * Lengths: at least N samples and 7N cuts, for the sizes in the file. 536769 and 3757383 suffice for every file.
+ *
+ * Answers 0 with the sizes and the end: the first N samples and the first 7N cuts are written, and what follows them stays as it was.
+ * Bytes may follow the file; whoever wants one file and no more compares the end with the length. Or, with sizes and end 0 and
+ * nothing written, the first of these that applies:
+ *
+ *   11         fewer than three bytes
+ *   1          a size outside 1 to 64
+ *   12         a lent table is too short for the block
+ *   11         too few bytes; a run of length 0, past 7N, or starting no later than the first byte after the run before it;
+ *              a zero byte in a run
+ *
+ * Whether samples and cuts fit each other is for filling to say.
+ */
+struct yakuemi_read yakuemi_read(const uint8_t *bytes, size_t bytes_len,
+                                 int16_t *samples, size_t samples_len,
+                                 uint8_t *cuts, size_t cuts_len);
+
+/* The answer of filling. */
+struct yakuemi_filled {
+    uint32_t number;
+    uint64_t rows;  /* T */
+    uint64_t moved; /* M, the points that moved: the non-zero bytes of the state table */
+    uint64_t place; /* where the fault is, with 5, 6 and 7; else 0 */
+};
+
+/*
+ * Fills a block: moves the points that sit too near the skin and writes the rows.
+ *
+ * Lengths: N samples, 7N cuts, N state bytes, and a row table of any length. What state and rows held before does not matter.
+ *
+ * Answers 0 with T and M: the state table is written whole, the first 4T numbers of the row table are the rows, and what follows
+ * them stays as it was. Or, the first of these that applies:
+ *
+ *   1 to 4     sizes and lengths                               T, M, place 0      no table is written
+ *   5          place: the lowest such point                    T, M 0             no table is written
+ *   6 or 7     place: the offset of the lowest byte at fault   T, M 0             no table is written
+ *   10         place 0                     T and M as with a longer table         state is written whole, rows stays as it was
+ *
+ * To learn T, call it with a row table of length 0: the answer is 10 and says T (or 0, if T is 0). Or lend 12 times
+ * the lattice tetrahedra, which always suffices.
+ */
+struct yakuemi_filled yakuemi_fill(uint32_t nx, uint32_t ny, uint32_t nz,
+                                   const int16_t *samples, size_t samples_len,
+                                   const uint8_t *cuts, size_t cuts_len,
+                                   uint8_t *state, size_t state_len,
+                                   uint32_t *rows, size_t rows_len);
+
+/* The answer of the place of an id. */
+struct yakuemi_placed {
+    uint32_t number;
+    uint32_t x, y, z; /* in 512ths of a cube's side, from the corner of the block with number 0 */
+};
+
+/*
+ * The place of one id, from the sizes, the cuts and the state table that filling left. It writes nothing.
+ *
+ * Answers 0 with the place, for every id of the rows of a filled block. Or, with the place (0, 0, 0), the first of these
+ * that applies: 1, 3, 4; 8 if the id is 8N or more, or is that of a cut whose edge does not exist, has byte 0 or has an end with
+ * a non-zero state byte; 9 if the point's state byte is above 14, or names an edge that does not exist, has byte 0 or has its cut too far
+ * from the point to move it.
+ */
+struct yakuemi_placed yakuemi_place(uint32_t nx, uint32_t ny, uint32_t nz,
+                                    const uint8_t *cuts, size_t cuts_len,
+                                    const uint8_t *state, size_t state_len,
+                                    uint32_t id);
+
+#ifdef __cplusplus
+}
+#endif
+
+#endif
