@@ -3,7 +3,7 @@
 use Prim.Native.Nat.{ℕ, _*_, _<_, _≤_}
 use native.Mathlib.Omega.{arith}
 use mathlib.Core.Path.{_≡_, refl, sym, ap, _∙_}
-use mathlib.Core.Logic.{_⊎_, inl, inr}
+use mathlib.Core.Logic.{inl, inr}
 use mathlib.Core.Bool.{Bool, true, false, not, _&&_}
 use mathlib.Core.List.{List, _++_}
 use lib.IntN.{ℤ}
@@ -62,6 +62,19 @@ module _ (samples : List ℤ) (cuts : List ℕ) where
   refuses true k more h n = (k, refl)
   refuses false k more h n = h n
 
+-- the numbers that reading answers
+pub data Answers : ℕ → Type 0 where
+  fine : Answers 0
+  by-size : Answers 1
+  by-file : Answers 11
+  by-limit : Answers 12
+
+answers : (samples : List ℤ) (cuts : List ℕ) (t : Bool) (k : ℕ) (more : Outcome) → Answers k → Answers (more .answer .number)
+    → Answers ((if t then refused samples cuts k else more) .answer .number)
+unfolding refusal
+answers samples cuts true k more a b = a
+answers samples cuts false k more a b = b
+
 -- a file that is read into the tables, and its sizes
 pub record Readable (bytes : List ℕ) (limit : ℕ) (samples : List ℤ) (cuts : List ℕ) (s : Sizes) : Type 0 where
   pub sized : Sized s
@@ -106,6 +119,23 @@ module _ (bytes : List ℕ) (limit : ℕ) (samples : List ℤ) (cuts : List ℕ)
       (refuses samples cuts (ltb (length samples) (points s)) 12 _
       (refuses samples cuts (ltb (length cuts) (7 * points s)) 12 _
       (refuses samples cuts (not (wellFormed bytes (points s))) 11 (taken bytes samples cuts s) (λ n. absurd (n refl)))))))
+
+  read-answers : Answers (read bytes limit samples cuts .answer .number)
+  unfolding read readBody taken
+  read-answers =
+      let s = fileSizes bytes in
+      answers samples cuts (ltb (length bytes) 3) 11 _ by-file
+      (answers samples cuts (not (sizesFit s)) 1 _ by-size
+      (answers samples cuts (beyond limit s) 12 _ by-limit
+      (answers samples cuts (ltb (length samples) (points s)) 12 _ by-limit
+      (answers samples cuts (ltb (length cuts) (7 * points s)) 12 _ by-limit
+      (answers samples cuts (not (wellFormed bytes (points s))) 11 (taken bytes samples cuts s) by-file fine)))))
+
+  pub whole-answers : Answers (readWhole bytes limit samples cuts .answer .number)
+  unfolding readWhole
+  whole-answers =
+      let o = read bytes limit samples cuts in
+      answers samples cuts (eqb (o .answer .number) 0 && ltb (o .answer .end) (length bytes)) 11 o by-file read-answers
 
   -- the code holds the answer
   module _ {r : Read} (p : r ≡ read bytes limit samples cuts .answer) where

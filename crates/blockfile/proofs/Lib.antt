@@ -6,6 +6,7 @@ pub mod Laid
 pub mod Parts
 pub mod Outcome
 pub mod Checked
+pub mod Longest
 pub mod Stands
 pub mod Rows
 pub mod RoundTrip

@@ -1,2 +1,4 @@
 pub mod Counted
 pub mod Outcome
+pub mod Buffer
+pub mod Examples

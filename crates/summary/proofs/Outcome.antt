@@ -1,13 +1,13 @@
 -- The two ways of a summary: the file is refused, or its block is filled. Assumes nothing.
 use Prim.Native.Nat.{ℕ}
-use mathlib.Core.Path.{_≡_, refl, sym, ap, _∙_}
+use mathlib.Core.Path.{_≡_, refl}
 use mathlib.Core.List.{List}
 use lib.IntN.{ℤ}
 use borrow.Author.Tests.{eq-eqb, ne-eqb}
 use Rattle.blockfile.specs.declared.Read.{Read}
 use Rattle.blockfile.specs.Format.{readSizes, readWhole}
 use Rattle.summary.specs.declared.Summary.{Summary}
-use Rattle.summary.specs.Summary.{benchLimit, refusal, Outcome, fillRead, summary}
+use Rattle.summary.specs.Summary.{benchLimit, refusal, fillRead, summary}
 use Rattle.summary.proofs.Counted.{Is}
 
 module _ (bytes : List ℕ) (samples : List ℤ) (cuts state rows : List ℕ) {r : Read} (p : r ≡ readWhole bytes benchLimit samples cuts .answer) where

@@ -42,8 +42,10 @@ fn fill_read(r: Read, samples: &[i16], cuts: &[u8], state: &mut [u8], rows: &mut
     requires { ⌜ Sized (readSizes r) ⌝ }
     requires { ⌜ (points (readSizes r) ≤ length (now samples)) × (7 * points (readSizes r) ≤ length (now cuts)) ⌝ }
     ensures { λ a. ⌜ a ≡ fillRead (readSizes r) (now (samples .entry)) (now (cuts .entry)) (now (state .entry)) (now (rows .entry)) .answer ⌝ }
-    ensures { λ _. ⌜ now (state .exit) ≡ fillRead (readSizes r) (now (samples .entry)) (now (cuts .entry)) (now (state .entry)) (now (rows .entry)) .state ⌝ }
-    ensures { λ _. ⌜ now (rows .exit) ≡ fillRead (readSizes r) (now (samples .entry)) (now (cuts .entry)) (now (state .entry)) (now (rows .entry)) .rows ⌝ }
+    ensures { λ _. ⌜ now (state .exit)
+        ≡ fillRead (readSizes r) (now (samples .entry)) (now (cuts .entry)) (now (state .entry)) (now (rows .entry)) .state ⌝ }
+    ensures { λ _. ⌜ now (rows .exit)
+        ≡ fillRead (readSizes r) (now (samples .entry)) (now (cuts .entry)) (now (state .entry)) (now (rows .entry)) .rows ⌝ }
 {
     let nx = r.nx as u32;
     let ny = r.ny as u32;
@@ -75,11 +77,14 @@ pub fn summarize(
     state: &mut [u8],
     rows: &mut [u32],
 ) -> Summary
-    ensures answer { λ r. ⌜ r ≡ summary (now (bytes .entry)) (now (samples .entry)) (now (cuts .entry)) (now (state .entry)) (now (rows .entry)) .answer ⌝ }
+    ensures answer { λ r. ⌜ r
+        ≡ summary (now (bytes .entry)) (now (samples .entry)) (now (cuts .entry)) (now (state .entry)) (now (rows .entry)) .answer ⌝ }
     ensures samples { λ _. ⌜ now (samples .exit) ≡ readWhole (now (bytes .entry)) benchLimit (now (samples .entry)) (now (cuts .entry)) .samples ⌝ }
     ensures cuts { λ _. ⌜ now (cuts .exit) ≡ readWhole (now (bytes .entry)) benchLimit (now (samples .entry)) (now (cuts .entry)) .cuts ⌝ }
-    ensures state { λ _. ⌜ now (state .exit) ≡ summary (now (bytes .entry)) (now (samples .entry)) (now (cuts .entry)) (now (state .entry)) (now (rows .entry)) .state ⌝ }
-    ensures rows { λ _. ⌜ now (rows .exit) ≡ summary (now (bytes .entry)) (now (samples .entry)) (now (cuts .entry)) (now (state .entry)) (now (rows .entry)) .rows ⌝ }
+    ensures state { λ _. ⌜ now (state .exit)
+        ≡ summary (now (bytes .entry)) (now (samples .entry)) (now (cuts .entry)) (now (state .entry)) (now (rows .entry)) .state ⌝ }
+    ensures rows { λ _. ⌜ now (rows .exit)
+        ≡ summary (now (bytes .entry)) (now (samples .entry)) (now (cuts .entry)) (now (state .entry)) (now (rows .entry)) .rows ⌝ }
 {
     let r = blockfile::file::read_whole(bytes, 5, samples, cuts);
     if r.number != 0 {

@@ -1,3 +1,4 @@
+pub mod Amount
 pub mod Checked
 pub mod Conforming
 pub mod Measured
