@@ -13,6 +13,7 @@ use mir.ValLaws.{toZ-ofZ}
 use Rattle.moving.specs.declared.Label.{Label}
 use Rattle.moving.specs.declared.Label.the-variants.{Minus, Zero, Plus}
 use Rattle.moving.specs.Label.{labelOf, isPlus, isMinus, opposed}
+use Rattle.audit.specs.Outside.{hasSign}
 
 above : (x : ℤ) → ltZ (pos 0) x ≡ isPlus (labelOf x)
 unfolding labelOf isPlus
@@ -44,6 +45,9 @@ pub opposed-handed : (x y : ℤ) → mag x < 2 ^ 15 → mag y < 2 ^ 15
     → opposed (labelOf (toZ w16 (ofZ w16 x))) (labelOf (toZ w16 (ofZ w16 y))) ≡ opposed (labelOf x) (labelOf y)
 opposed-handed x y h g = λ i. opposed (labelOf (handed x h i)) (labelOf (handed y g i))
 
+pub sign-handed : (plus : Bool) (x : ℤ) → mag x < 2 ^ 15 → hasSign plus (toZ w16 (ofZ w16 x)) ≡ hasSign plus x
+sign-handed plus x h = ap (hasSign plus) (handed x h)
+
 false-true : {A : Type 0} → _≡_ {A = Bool} false true → A
 false-true e = absurd (subst T (sym e) tt)
 
@@ -64,3 +68,19 @@ unfolding isMinus isPlus opposed
 opposed-none Minus m e f = false-true (sym e)
 opposed-none Zero m e f = refl
 opposed-none Plus m e f = false-true (sym f)
+
+-- two samples that both lack the sign
+pub same-sign : (plus : Bool) (x y : ℤ) → hasSign plus x ≡ false → hasSign plus y ≡ false → opposed (labelOf x) (labelOf y) ≡ false
+unfolding hasSign opposed isPlus isMinus
+same-sign true x y e f = go (labelOf x) e
+  where
+    go : (l : Label) → isPlus l ≡ false → opposed l (labelOf y) ≡ false
+    go Minus d = f
+    go Zero d = refl
+    go Plus d = false-true (sym d)
+same-sign false x y e f = go (labelOf x) e
+  where
+    go : (l : Label) → isMinus l ≡ false → opposed l (labelOf y) ≡ false
+    go Minus d = false-true (sym d)
+    go Zero d = refl
+    go Plus d = f

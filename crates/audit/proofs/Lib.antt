@@ -10,3 +10,5 @@ pub mod CornerEnds
 pub mod CentreEnds
 pub mod Still
 pub mod Answers
+pub mod Folds
+pub mod Level

@@ -41,6 +41,34 @@ there {s = s} {q = q} {c = c} {far = far} e l = subst (λ (t : Bool). Leads s q 
 all-true : {a b : Bool} → a ≡ true → b ≡ true → (a && b) ≡ true
 all-true {b = b} e f = ap (λ (x : Bool). x && b) e ∙ f
 
+-- where the seven directions lead, whether the edges are there or not
+module _ (s : Sizes) (samples : List ℤ) (q : Site) (a : Asked s samples q) where
+  pub some-leads : (d : ℕ) → d < 7 → (t : Bool) × Leads s q (d + 1) t (getD (endsAt s q) d 0)
+  unfolding endsAt
+  some-leads d h = go (q .kind) refl
+    where
+      go : (k : Kind) → q .kind ≡ k → (t : Bool) × Leads s q (d + 1) t (getD (endsOf k s q) d 0)
+      go Corner k =
+          by-direction (λ d. (t : Bool) × Leads s q (d + 1) t (getD (endsOf Corner s q) d 0))
+          (_, corner.end-0 s samples q a k)
+          (_, corner.end-1 s samples q a k)
+          (_, corner.end-2 s samples q a k)
+          (_, corner.end-3 s samples q a k refl refl)
+          (_, corner.end-4 s samples q a k refl refl)
+          (_, corner.end-5 s samples q a k refl refl)
+          (_, corner.end-6 s samples q a k refl refl)
+          d h
+      go Centre k =
+          by-direction (λ d. (t : Bool) × Leads s q (d + 1) t (getD (endsOf Centre s q) d 0))
+          (_, centre.end-0 s samples q a k)
+          (_, centre.end-1 s samples q a k)
+          (_, centre.end-2 s samples q a k)
+          (_, centre.end-3 s samples q a k)
+          (_, centre.end-4 s samples q a k)
+          (_, centre.end-5 s samples q a k)
+          (_, centre.end-6 s samples q a k)
+          d h
+
 module _ (s : Sizes) (samples : List ℤ) (q : Site) (a : Asked s samples q) (n : Inner s q) where
   corners : q .kind ≡ Corner → (d : ℕ) → d < 7 → Leads s q (d + 1) true (getD (endsOf Corner s q) d 0)
   corners k =

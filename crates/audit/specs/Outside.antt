@@ -1,13 +1,18 @@
--- Points above zero, and those of them on the rim: no cut byte is asked.
+-- Samples of a sign, points above zero, and those of them on the rim: no cut byte is asked.
 use Prim.Native.Nat.{ℕ}
-use mathlib.Core.Bool.{Bool}
+use mathlib.Core.Bool.{Bool, true, false}
 use mathlib.Core.List.{List, []}
 use lib.IntN.{ℤ, pos}
 use lib.ListN.{getD}
 use Rattle.lattice.specs.declared.Sizes.{Sizes}
 use Rattle.moving.specs.Block.{blockOf}
-use Rattle.moving.specs.Label.{labelOf, isPlus}
+use Rattle.moving.specs.Label.{labelOf, isPlus, isMinus}
 use Rattle.filling.specs.Check.{rimFault}
+
+-- above zero, or below
+unfoldable pub hasSign : Bool → ℤ → Bool
+hasSign true x = isPlus (labelOf x)
+hasSign false x = isMinus (labelOf x)
 
 unfoldable pub plusAt : List ℤ → ℕ → Bool
 plusAt samples p = isPlus (labelOf (getD samples p (pos 0)))

@@ -32,8 +32,8 @@ fn site_fault(s: Sizes, samples: &[i16], bytes: &[u8], q: Site) -> Fault
     seven::point_fault(bytes, must)
 }
 
-// The first byte at fault of a line of points.
-fn line_fault(s: Sizes, samples: &[i16], cuts: &[u8], q: Site) -> Fault
+// The first byte at fault of a line of points, point by point.
+fn line_search(s: Sizes, samples: &[i16], cuts: &[u8], q: Site) -> Fault
     requires { ⌜ Tabled (blockOf s (now samples) (now cuts)) ⌝ }
     requires { ⌜ Line s (q .own) q ⌝ }
     ensures { λ r. ⌜ r ≡ tableFault (blockOf s (now (samples .entry)) (now (cuts .entry))) (7 * grid s (q .kind) along-x) (7 * q .own) ⌝ }
@@ -52,6 +52,18 @@ fn line_fault(s: Sizes, samples: &[i16], cuts: &[u8], q: Site) -> Fault
         }
     }
     Fault::Fine
+}
+
+// The same; most lines need only a glance.
+fn line_fault(s: Sizes, samples: &[i16], cuts: &[u8], q: Site) -> Fault
+    requires { ⌜ Tabled (blockOf s (now samples) (now cuts)) ⌝ }
+    requires { ⌜ Line s (q .own) q ⌝ }
+    ensures { λ r. ⌜ r ≡ tableFault (blockOf s (now (samples .entry)) (now (cuts .entry))) (7 * grid s (q .kind) along-x) (7 * q .own) ⌝ }
+{
+    if quiet::is_quiet_line(s, samples, cuts, q) {
+        return Fault::Fine;
+    }
+    line_search(s, samples, cuts, q)
 }
 
 // The lowest byte at fault.

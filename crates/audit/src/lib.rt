@@ -3,6 +3,7 @@
 pub mod crossing;
 pub mod cuts;
 pub mod quiet;
+pub mod ranges;
 pub mod rim;
 pub mod seven;
 pub mod signs;

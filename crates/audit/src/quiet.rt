@@ -1,5 +1,8 @@
-// Points with nothing to find: no edge crosses and all seven bytes are zero. Most points are so.
+// Points with nothing to find: no edge crosses and all seven bytes are zero. Most points are so, and
+// most lines of points.
+use crate::ranges;
 use crate::signs;
+use crate::walk;
 use lattice::Kind;
 use lattice::Site;
 use lattice::Sizes;
@@ -7,16 +10,18 @@ use lattice::edges;
 ghost use mathlib.Core.Path.{_≡_};
 ghost use mathlib.Core.Bool.{true, false};
 ghost use mathlib.Core.List.{[]};
-ghost use Prim.Native.Nat.{ℕ, _<_, _≤_};
+ghost use Prim.Native.Nat.{ℕ, _*_, _<_, _≤_};
 ghost use lib.IntN.{pos};
 ghost use lib.ListN.{length, getD};
-ghost use Rattle.lattice.specs.Counts.{Sized};
+ghost use Rattle.lattice.specs.Axis.{along-x};
+ghost use Rattle.lattice.specs.Counts.{Sized, grid};
 ghost use Rattle.lattice.specs.Site.{Sited};
-ghost use Rattle.moving.specs.Block.{blockOf};
+ghost use Rattle.moving.specs.Block.{blockOf, Tabled};
 ghost use Rattle.moving.specs.Label.{labelOf, opposed};
 ghost use Rattle.audit.specs.declared.Fault.the-variants.{Fine};
-ghost use Rattle.audit.specs.Faults.{Asked, crossingsAt, sevenFault};
-ghost use Rattle.audit.specs.Inner.{Inner, endsAt};
+ghost use Rattle.audit.specs.Faults.{Asked, crossingsAt, sevenFault, tableFault};
+ghost use Rattle.audit.specs.Inner.{Inner, endsAt, Level};
+ghost use Rattle.audit.specs.Lines.{Line};
 
 // All seven far ends are in the block.
 fn is_inner(s: Sizes, q: Site) -> bool
@@ -86,18 +91,6 @@ fn is_calm(samples: &[i16], own: usize, ends: [usize; 7]) -> bool
     true
 }
 
-fn is_blank(bytes: &[u8]) -> bool
-    requires { ⌜ length (now bytes) ≡ 7 ⌝ }
-    ensures { λ r. ⌜ (r ≡ true → (d : ℕ) → d < 7 → getD (now (bytes .entry)) d 0 ≡ 0) ⌝ }
-{
-    for d in 0..7 {
-        if bytes[d] != 0 {
-            return false;
-        }
-    }
-    true
-}
-
 // The seven bytes of a point are fine, at a glance. A point where this fails may be fine as well.
 pub fn is_quiet(s: Sizes, samples: &[i16], bytes: &[u8], q: Site) -> bool
     requires { ⌜ Asked s (now samples) q ⌝ }
@@ -107,8 +100,45 @@ pub fn is_quiet(s: Sizes, samples: &[i16], bytes: &[u8], q: Site) -> bool
     let own = q.own;
     if is_inner(s, q) {
         if is_calm(samples, own, ends(s, q)) {
-            return is_blank(bytes);
+            return ranges::is_blank(bytes, 0, 7);
         }
+    }
+    false
+}
+
+// In none of five ranges of m + 1 samples there is one above zero, or there is none below.
+fn is_level(plus: bool, samples: &[i16], starts: [usize; 5], m: usize) -> bool
+    requires { ⌜ (length (now samples) ≤ 1000000) × (m ≤ 65) ⌝ }
+    requires { ⌜ ((k : ℕ) → k < 5 → getD starts k 0 ≤ 1100000) ⌝ }
+    ensures { λ r. ⌜ (r ≡ true → Level plus (now (samples .entry)) starts m) ⌝ }
+{
+    for k in 0..5 {
+        let from = starts[k];
+        if ranges::has_some(plus, samples, from, from + m + 1) {
+            return false;
+        }
+    }
+    true
+}
+
+// The bytes of a line of points are fine, at a glance: all are zero, and of the samples of the line
+// and of the far ends none is above zero, or none is below. Far ends of neighbours stand side by
+// side, so a few ranges hold them all; that they hold more does no harm.
+pub fn is_quiet_line(s: Sizes, samples: &[i16], cuts: &[u8], q: Site) -> bool
+    requires { ⌜ Tabled (blockOf s (now samples) (now cuts)) ⌝ }
+    requires { ⌜ Line s (q .own) q ⌝ }
+    ensures { λ r. ⌜ (r ≡ true → tableFault (blockOf s (now (samples .entry)) (now (cuts .entry))) (7 * grid s (q .kind) along-x) (7 * q .own) ≡ Fine) ⌝ }
+{
+    let kind = q.kind;
+    let own = q.own;
+    let m = walk::line_length(s, kind);
+    if ranges::is_blank(cuts, 7 * own, 7 * (own + m)) {
+        let far = ends(s, q);
+        let starts = [own, far[1], far[2], far[4], far[6]];
+        if is_level(true, samples, starts, m) {
+            return true;
+        }
+        return is_level(false, samples, starts, m);
     }
     false
 }

@@ -1,8 +1,8 @@
 -- The search of a point code by code, the table of codes point by point, and how many points move. Assumes nothing.
-use Prim.Native.Nat.{ℕ, suc, _+_, _*_, _-_, _≤_, _<_}
+use Prim.Native.Nat.{ℕ, zero, suc, _+_, _*_, _-_, _≤_, _<_}
 use native.Mathlib.Numerals.{add-one}
 use native.Mathlib.Omega.{arith}
-use mathlib.Core.Path.{_≡_, refl, sym, ap, _∙_}
+use mathlib.Core.Path.{_≡_, refl, sym, ap, subst, _∙_}
 use mathlib.Core.Bool.{Bool, true, false, not}
 use mathlib.Core.List.{List, [], _∷_, _++_}
 use lib.Dec.{eqb, ltb}
@@ -17,7 +17,6 @@ use Rattle.lattice.specs.declared.Site.{Site}
 use Rattle.lattice.specs.Counts.{points}
 use Rattle.lattice.specs.Direction.{Code, isStart, directionOf}
 use Rattle.lattice.specs.Edge.{edgeByte}
-use Rattle.lattice.specs.Site.{Sited}
 use Rattle.lattice.proofs.Codes.{direction-lt}
 use Rattle.moving.specs.Block.{Block, cutByte}
 use Rattle.moving.specs.Label.{isZero}
@@ -25,6 +24,8 @@ use Rattle.moving.specs.Violation.{violates}
 use Rattle.moving.specs.Moving.{labelAfter, live, violatedAlong, violatedBy, choice, codes, stateOf}
 use Rattle.moving.proofs.Moved.{codes-length}
 use Rattle.filling.specs.Fill.{movedCount}
+use Rattle.audit.specs.Lines.{Line}
+use Rattle.warp.specs.Quick.{Coded}
 
 -- an edge's byte is in the table
 pub byte-lt : (n p c q : ℕ) → Code c → p < n → q < n → edgeByte p c q < 7 * n
@@ -100,51 +101,79 @@ count-snoc l c = ap (count (moves (l ++ (c ∷ [])))) long ∙ (λ t. same t + (
     last : getD (l ++ (c ∷ [])) (length l) 0 ≡ c
     last = getD-at l c [] 0 (length l) refl
 
--- the first p points are done: their codes stand in the table, those that moved are counted, and q is the next point
-pub record Warped (b : Block) (n long : ℕ) (state : List ℕ) (q : Site) (moved p : ℕ) : Type 0 where
-  pub high : p ≤ n
-  pub same-length : length state ≡ long
-  pub done : take p state ≡ codes b p
-  pub counted : moved ≡ movedCount (codes b p)
-  pub sited : p < n → Sited (b .sizes) q
-  pub here : p < n → q .own ≡ p
-
 module _ (b : Block) where
-  pub codes-next : (state : List ℕ) (p c : ℕ) → p < length state → take p state ≡ codes b p → choice b (take p state) p ≡ c
+  codes-next : (state : List ℕ) (p c : ℕ) → p < length state → take p state ≡ codes b p → choice b (take p state) p ≡ c
       → take (p + 1) (set state p c) ≡ codes b (p + 1)
   unfolding codes
   codes-next state p c h e f = rw (add-one p, take-suc-set state p c h, ← f, e) refl
 
-  pub counted-next : (p c : ℕ) → choice b (codes b p) p ≡ c
+  counted-next : (p c : ℕ) → choice b (codes b p) p ≡ c
       → movedCount (codes b (p + 1)) ≡ movedCount (codes b p) + (if not (eqb c 0) then 1 else 0)
   unfolding codes
   counted-next p c e = rw (add-one p, e) (count-snoc (codes b p) c)
 
-  pub warped-few : {n long : ℕ} {state : List ℕ} {q : Site} {moved p : ℕ} → Warped b n long state q moved p → moved ≤ p
+  pub counted-few : (p : ℕ) → movedCount (codes b p) ≤ p
   unfolding movedCount
-  warped-few {p = p} w =
-      omega (arith, w .counted, codes-length b p, count-le (λ j. not (eqb (getD (codes b p) j 0) 0)) (length (codes b p)))
+  counted-few p = omega (arith, codes-length b p, count-le (λ j. not (eqb (getD (codes b p) j 0) 0)) (length (codes b p)))
 
-  -- one more point: its code is written, counted, and the site goes on
-  pub warped-next : {n long : ℕ} {state : List ℕ} {q next : Site} {moved more p c : ℕ} → Warped b n long state q moved p
-      → p < n → n ≡ long → choice b (take p state) p ≡ c → more ≡ moved + (if not (eqb c 0) then 1 else 0)
-      → (p + 1 < n → Sited (b .sizes) next × (next .own ≡ p + 1)) → Warped b n long (set state p c) next more (p + 1)
-  warped-next {state = state} {moved = moved} {p = p} {c = c} w h l e m f =
+  -- one more code is written
+  pub coded-next : {state : List ℕ} {p c : ℕ} → Coded b p state → p < points (b .sizes) → choice b (take p state) p ≡ c
+      → Coded b (p + 1) (set state p c)
+  coded-next {state} {p} {c} w h e =
+      record { long = simp length-set (w .long); done = codes-next state p c (omega (arith, w .long)) (w .done) e }
+
+  -- points that do not move are not counted
+  pub counted-still : (p n : ℕ) → ((j : ℕ) → p ≤ j → j < p + n → choice b (codes b j) j ≡ 0)
+      → movedCount (codes b (p + n)) ≡ movedCount (codes b p)
+  counted-still p zero h = let e : p + 0 ≡ p = omega arith in ap (λ (k : ℕ). movedCount (codes b k)) e
+  counted-still p (suc n) h =
+      let e : p + suc n ≡ p + n + 1 = omega arith in
+      ap (λ (k : ℕ). movedCount (codes b k)) e
+      ∙ omega (arith, counted-next (p + n) 0 (h (p + n) (omega arith) (omega arith)), counted-still p n (λ j a u. h j a (omega arith)))
+
+  -- x of the m points of a line are done, and those that moved are counted
+  pub record Walked (own m : ℕ) (state : List ℕ) (moved x : ℕ) : Type 0 where
+    pub high : x ≤ m
+    pub coded : Coded b (own + x) state
+    pub counted : moved + movedCount (codes b own) ≡ movedCount (codes b (own + x))
+
+  pub walked-starts : {own m : ℕ} {state : List ℕ} → Coded b own state → Walked own m state 0 0
+  walked-starts {own} {m} {state} w =
+      let e : own ≡ own + 0 = omega arith in
       record {
         high = omega arith;
-        same-length = simp length-set (w .same-length);
-        done = codes-next state p c (omega (arith, w .same-length)) (w .done) e;
-        counted = m ∙ ap (λ (k : ℕ). k + (if not (eqb c 0) then 1 else 0)) (w .counted) ∙ sym (counted-next p c (rw (w .done) at e));
-        sited = λ g. f g .0;
-        here = λ g. f g .1;
+        coded = subst (λ (k : ℕ). Coded b k state) e w;
+        counted = omega (arith, ap (λ (k : ℕ). movedCount (codes b k)) e);
       }
 
+  pub walked-next : {own m : ℕ} {state : List ℕ} {moved more x c : ℕ} → Walked own m state moved x → x < m → own + m ≤ points (b .sizes)
+      → choice b (take (own + x) state) (own + x) ≡ c → more ≡ moved + (if not (eqb c 0) then 1 else 0)
+      → Walked own m (set state (own + x) c) more (x + 1)
+  walked-next {own} {m} {state} {moved} {more} {x} {c} w h l e f =
+      let g : own + x + 1 ≡ own + (x + 1) = omega arith in
+      record {
+        high = omega arith;
+        coded = subst (λ (k : ℕ). Coded b k (set state (own + x) c)) g (coded-next (w .coded) (omega arith) e);
+        counted = omega (
+          arith,
+          w .counted,
+          counted-next (own + x) c (rw (w .coded .done) at e),
+          ap (λ (k : ℕ). movedCount (codes b k)) g,
+        );
+      }
+
+  -- the points before p are done, and the line from p on is the next
+  pub record Warped (n : ℕ) (state : List ℕ) (q : Site) (moved p : ℕ) : Type 0 where
+    pub high : p ≤ n
+    pub coded : Coded b p state
+    pub counted : moved ≡ movedCount (codes b p)
+    pub line : p < n → Line (b .sizes) p q
+
   -- all points are done
-  pub warped-whole : {n long : ℕ} {state : List ℕ} {q : Site} {moved p : ℕ} → Warped b n long state q moved p
-      → n ≤ p → n ≡ long → n ≡ points (b .sizes)
+  pub warped-whole : {n : ℕ} {state : List ℕ} {q : Site} {moved p : ℕ} → Warped n state q moved p → n ≤ p → n ≡ points (b .sizes)
       → (state ≡ stateOf b) × (moved ≡ movedCount (stateOf b))
-  warped-whole {n} {state = state} {p = p} w h l e = (
-    sym (take-all p state (omega (arith, w .same-length))) ∙ w .done ∙ ap (codes b) whole,
+  warped-whole {n} {state} {p = p} w h e = (
+    sym (take-all p state (omega (arith, w .coded .long, w .high))) ∙ w .coded .done ∙ ap (codes b) whole,
     w .counted ∙ ap (λ (k : ℕ). movedCount (codes b k)) whole,
   )
     where

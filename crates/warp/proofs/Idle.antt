@@ -1,14 +1,13 @@
 -- When nothing has to be searched: what the quick tests of a point mean for its search. Assumes nothing.
 use Prim.Native.Nat.{ℕ, _+_, _*_, _-_, _≤_, _<_}
 use native.Mathlib.Omega.{arith}
-use mathlib.Core.Path.{_≡_, refl, sym, ap, _∙_}
+use mathlib.Core.Path.{_≡_, refl, sym, ap, subst, _∙_}
 use mathlib.Core.Logic.{inl, inr}
 use mathlib.Core.Bool.{Bool, true, false, _&&_}
 use mathlib.Core.List.{List}
 use lib.IntN.{ℤ, pos}
 use lib.Dec.{eqb}
-use lib.ListN.{length, getD, take, drop}
-use lib.Seq.{getD-take, getD-drop}
+use lib.ListN.{length, getD, take, set}
 use borrow.Author.Tests.{eqb-true}
 use Rattle.basics.specs.Lists.{firstFrom}
 use Rattle.basics.proofs.Test.{false-F, lt-or}
@@ -17,19 +16,25 @@ use Rattle.lattice.specs.declared.Sizes.{Sizes}
 use Rattle.lattice.specs.declared.Near.{Near}
 use Rattle.lattice.specs.declared.Near.the-variants.{At, Nothing}
 use Rattle.lattice.specs.declared.Site.{Site}
-use Rattle.lattice.specs.Counts.{Sized}
+use Rattle.lattice.specs.Axis.{along-x}
+use Rattle.lattice.specs.Counts.{Sized, grid}
 use Rattle.lattice.specs.Direction.{Code}
 use Rattle.lattice.specs.Edge.{near, neighbour, edgeByte}
 use Rattle.lattice.specs.Site.{Sited, index}
 use Rattle.lattice.proofs.Bounds.{points-small}
+use Rattle.lattice.proofs.Sites.{by-direction}
 use Rattle.moving.specs.Block.{Block, blockOf, sample, cutByte, Tabled}
 use Rattle.moving.specs.Violation.{violates}
-use Rattle.moving.specs.Moving.{live, violatedAlong, violatedBy}
-use Rattle.warp.specs.Quick.{Idle}
+use Rattle.moving.specs.Moving.{live, violatedAlong, violatedBy, choice, codes}
+use Rattle.filling.specs.Fill.{movedCount}
+use Rattle.audit.specs.Lines.{Line, lineAt}
+use Rattle.audit.proofs.Points.{sited}
+use Rattle.audit.proofs.Lines.{line-stands, line-at}
+use Rattle.warp.specs.Quick.{startAt, Uncut, Idle, Coded}
 use Rattle.warp.proofs.Signs.{still-sample}
-use Rattle.warp.proofs.Next.{site-lt, site-near}
-use Rattle.warp.proofs.Codes.{near-still, Searching}
-use Rattle.warp.proofs.Starts.{byte-start}
+use Rattle.warp.proofs.Sites.{site-lt, site-near}
+use Rattle.warp.proofs.Codes.{near-still, Searching, search-ends, coded-next, counted-still}
+use Rattle.warp.proofs.Starts.{byte-start, byte-end, start-first, start-fourth, start-sixth, start-within}
 
 -- a site's number and its bytes are in the tables, and small
 pub own-fits : (s : Sizes) (samples : List ℤ) (cuts : List ℕ) (q : Site) → Tabled (blockOf s samples cuts) → Sited s q
@@ -71,23 +76,18 @@ module _ (b : Block) (done : List ℕ) (p c : ℕ) where
 pub idle-sample : (b : Block) (p : ℕ) → sample b p ≡ pos 0 → Idle b p
 idle-sample b p z = record { unviolated = λ done c h. still-violated b done p c z }
 
--- fourteen bytes that are zero: seven in the point's part of the table, seven at the starts of edges that end here
+-- fourteen bytes that are zero: seven of edges that start at the point, seven of edges that end there
 module _ (b : Block) (q : Site) (h : Sized (b .sizes)) (g : Sited (b .sizes) q) where
-  pub idle-cuts : (n : ℕ) → 7 ≤ n → ((d : ℕ) → d < 7 → getD (take n (drop (7 * q .own) (b .cuts))) d 0 ≡ 0)
+  pub idle-cuts : ((d : ℕ) → d < 7 → cutByte b (7 * q .own + d) ≡ 0)
       → ((d : ℕ) → d < 7 → (e : ℕ) → near (b .sizes) (q .kind) (index q) (d + 8) ≡ At e
       → cutByte b (edgeByte (q .own) (d + 8) e) ≡ 0)
       → Idle b (q .own)
-  idle-cuts n l starts ends =
+  idle-cuts starts ends =
       record {
         unviolated = λ done c k.
             unviolated b done (q .own) c (λ e m. none-violates c _ (blank c k e (sym (site-near (b .sizes) q h g c) ∙ m)));
       }
     where
-      start : (c : ℕ) → Code c → c ≤ 7 → getD (b .cuts) (7 * q .own + (c - 1)) 0 ≡ 0
-      start c k u =
-          sym (getD-take n (drop (7 * q .own) (b .cuts)) (c - 1) 0 (omega arith) ∙ getD-drop (7 * q .own) (b .cuts) (c - 1) 0)
-          ∙ starts (c - 1) (omega arith)
-
       end : (c : ℕ) → c ≤ 14 → (d : ℕ) → d + 8 ≡ c → (e : ℕ)
           → near (b .sizes) (q .kind) (index q) c ≡ At e → cutByte b (edgeByte (q .own) c e) ≡ 0
       end c u d x e m =
@@ -98,8 +98,38 @@ module _ (b : Block) (q : Site) (h : Sized (b .sizes)) (g : Sited (b .sizes) q) 
       blank c k e m =
           elim (lt-or 7 c) [
             | inl u ↦ end c (k .high) (c - 8) (omega arith) e m
-            | inr u ↦ ap (cutByte b) (sym (byte-start (q .own) c e (k .low) u)) ∙ start c k u
+            | inr u ↦ ap (cutByte b) (sym (byte-start (q .own) c e (k .low) u)) ∙ starts (c - 1) (omega arith)
           ]
+
+pub uncut-from : {cuts : List ℕ} {r t m : ℕ} → r ≡ t → Uncut cuts r m → Uncut cuts t m
+uncut-from {cuts} {m = m} e u = subst (λ (k : ℕ). Uncut cuts k m) e u
+
+-- a line of points, none of whose edges has a cut: five ranges hold all starts
+module _ (s : Sizes) (q : Site) (h : Sized s) (l : Line s (q .own) q) (m : ℕ) (w : m ≡ grid s (q .kind) along-x) where
+  pub idle-line : (cuts : List ℕ) → Uncut cuts (startAt s q 0) m → Uncut cuts (startAt s q 1) m → Uncut cuts (startAt s q 2) m
+      → Uncut cuts (startAt s q 3) m → Uncut cuts (startAt s q 5) m
+      → (samples : List ℤ) (x : ℕ) → x < grid s (q .kind) along-x → Idle (blockOf s samples cuts) (q .own + x)
+  idle-line cuts u0 u1 u2 u3 u5 samples x i =
+      idle-cuts (blockOf s samples cuts) (lineAt q x) h g
+      (λ d v. u0 .none (q .own + x) (omega (arith, start-first s q)) (omega (arith, start-first s q)) d v)
+      (λ d v e n. ap (λ (o : ℕ). getD cuts o 0) (sym (byte-end (q .own + x) (d + 8) e (omega arith) (omega arith)) ∙ (omega arith)) ∙ zeros d v e n)
+    where
+      g : Sited s (lineAt q x)
+      g = sited (line-at l x i)
+
+      within : (d : ℕ) → d < 7 → (e : ℕ) → near s (q .kind) (index (lineAt q x)) (d + 8) ≡ At e → (startAt s q d ≤ e) × (e ≤ startAt s q d + x)
+      within = start-within s q (sited (line-stands l)) x g
+
+      zeros : (d : ℕ) → d < 7 → (e : ℕ) → near s (q .kind) (index (lineAt q x)) (d + 8) ≡ At e → getD cuts (7 * e + d) 0 ≡ 0
+      zeros =
+          by-direction (λ d. (e : ℕ) → near s (q .kind) (index (lineAt q x)) (d + 8) ≡ At e → getD cuts (7 * e + d) 0 ≡ 0)
+          (λ e n. let v = within 0 (omega arith) e n in u0 .none e (v .0) (omega arith) 0 (omega arith))
+          (λ e n. let v = within 1 (omega arith) e n in u1 .none e (v .0) (omega arith) 1 (omega arith))
+          (λ e n. let v = within 2 (omega arith) e n in u2 .none e (v .0) (omega arith) 2 (omega arith))
+          (λ e n. let v = within 3 (omega arith) e n in u3 .none e (v .0) (omega arith) 3 (omega arith))
+          (λ e n. let v = within 4 (omega arith) e n in u3 .none e (omega (arith, start-fourth s q)) (omega (arith, start-fourth s q)) 4 (omega arith))
+          (λ e n. let v = within 5 (omega arith) e n in u5 .none e (v .0) (omega arith) 5 (omega arith))
+          (λ e n. let v = within 6 (omega arith) e n in u5 .none e (omega (arith, start-sixth s q)) (omega (arith, start-sixth s q)) 6 (omega arith))
 
 -- the search of an idle point is over before it starts
 pub search-idle : {b : Block} {p : ℕ} (done : List ℕ) → Idle b p → Searching b done p 15
@@ -116,17 +146,16 @@ search-idle {b} {p} done i =
       ];
     }
 
--- the first d bytes of a part are zero
-pub record Blank (part : List ℕ) (d : ℕ) : Type 0 where
-  pub high : d ≤ 7
-  pub zero : (j : ℕ) → j < d → getD part j 0 ≡ 0
+-- an idle point does not move
+pub idle-stays : {b : Block} {p : ℕ} (done : List ℕ) → Idle b p → choice b done p ≡ 0
+idle-stays done i = search-ends (search-idle done i) (omega arith)
 
-pub blank-next : {part : List ℕ} {d : ℕ} → Blank part d → d < 7 → getD part d 0 ≡ 0 → Blank part (d + 1)
-blank-next {part} {d} w h e =
-    record {
-      high = omega arith;
-      zero = λ j l. elim (lt-or j d) [ inl u ↦ w .zero j u | inr u ↦ ap (λ (k : ℕ). getD part k 0) (omega arith) ∙ e ];
-    }
+pub coded-idle : {b : Block} {p : ℕ} {state : List ℕ} → Coded b p state → p < length state → Idle b p → Coded b (p + 1) (set state p 0)
+coded-idle {b} {p} {state} w h i = coded-next b w (omega (arith, w .long)) (idle-stays (take p state) i)
+
+-- a line of idle points is not counted
+pub idle-counted : (b : Block) (p n : ℕ) → ((j : ℕ) → p ≤ j → j < p + n → Idle b j) → movedCount (codes b (p + n)) ≡ movedCount (codes b p)
+idle-counted b p n h = counted-still b p n (λ j a u. idle-stays (codes b j) (h j a u))
 
 -- seven numbers that add up to nothing
 pub all-zero : (a b c d e f g : ℕ) → eqb (a + b + c + (d + e + f + g)) 0 ≡ true

@@ -1,5 +1,6 @@
 pub mod Signs
-pub mod Next
+pub mod Sites
 pub mod Codes
 pub mod Starts
 pub mod Idle
+pub mod Passed

@@ -20,7 +20,8 @@ use Rattle.lattice.specs.Edge.{exists, farKind, farIndex, near, edgeByte}
 use Rattle.lattice.specs.Site.{Sited, index, oddOf}
 use Rattle.lattice.proofs.Edge.{stays}
 use Rattle.lattice.proofs.Sites.{by-direction, number-add, far-index, near-yes, near-no}
-use Rattle.warp.specs.Quick.{startBack}
+use Rattle.audit.specs.Lines.{lineAt}
+use Rattle.warp.specs.Quick.{startBack, startOf, startAt}
 
 -- an edge leads some cells up and some down in the grid of its far end
 strides : (s : Sizes) (k : Kind) (i : Axis → ℕ) (c e : ℕ) → Code c → near s k i c ≡ At e
@@ -118,6 +119,67 @@ module _ (s : Sizes) (q : Site) (g : Sited s q) where
       → r ≡ startBack (s .nx) (s .nx * s .ny) (s .nx + 1) (q .own) (q .across) d
       → (e : ℕ) → near s (q .kind) (index q) (d + 8) ≡ At e → r ≡ e
   site-centre k d h r f e n = f ∙ centre-starts s (index q) (q .own) _ (own-as Centre k) (across-as Centre k) d h e (near-as Centre k (d + 8) e n)
+
+-- the starts as one definition: where those of neighbours along a line stand
+module _ (s : Sizes) (q : Site) where
+  pub start-first : startAt s q 0 ≡ q .own - 1
+  unfolding startAt startBack
+  start-first = go (q .kind)
+    where
+      go : (k : Kind) → startOf k s q 0 ≡ q .own - 1
+      go Corner = refl
+      go Centre = refl
+
+  pub start-fourth : startAt s q 4 ≡ startAt s q 3 + 1
+  unfolding startAt startBack
+  start-fourth = go (q .kind)
+    where
+      go : (k : Kind) → startOf k s q 4 ≡ startOf k s q 3 + 1
+      go Corner = refl
+      go Centre = refl
+
+  pub start-sixth : startAt s q 6 ≡ startAt s q 5 + 1
+  unfolding startAt startBack
+  start-sixth = go (q .kind)
+    where
+      go : (k : Kind) → startOf k s q 6 ≡ startOf k s q 5 + 1
+      go Corner = refl
+      go Centre = refl
+
+-- x numbers further along both grids
+back-within : (line layer wide own low high x d : ℕ) → high ≡ low + x → d < 7
+    → (startBack line layer wide own low d ≤ startBack line layer wide (own + x) high d)
+    × (startBack line layer wide (own + x) high d ≤ startBack line layer wide own low d + x)
+unfolding startBack
+back-within line layer wide own low high x d h =
+    by-direction (λ d. (startBack line layer wide own low d ≤ startBack line layer wide (own + x) high d)
+    × (startBack line layer wide (own + x) high d ≤ startBack line layer wide own low d + x))
+    (omega arith, omega arith)
+    (omega arith, omega arith)
+    (omega arith, omega arith)
+    (omega arith, omega arith)
+    (omega arith, omega arith)
+    (omega arith, omega arith)
+    (omega arith, omega arith)
+    d
+
+pub start-within : (s : Sizes) (q : Site) → Sited s q → (x : ℕ) → Sited s (lineAt q x) → (d : ℕ) → d < 7
+    → (e : ℕ) → near s (q .kind) (index (lineAt q x)) (d + 8) ≡ At e → (startAt s q d ≤ e) × (e ≤ startAt s q d + x)
+unfolding startAt
+start-within s q g x f d h e n = go (q .kind) refl
+  where
+    further : q .kind ≡ Corner → q .across + x - (s .nx * s .ny + (s .nx + 1)) ≡ q .across - (s .nx * s .ny + (s .nx + 1)) + x
+    further k = omega (arith, low-fits s q g k)
+
+    go : (k : Kind) → q .kind ≡ k → (startOf k s q d ≤ e) × (e ≤ startOf k s q d + x)
+    go Corner k =
+        let w = site-corner s (lineAt q x) f k d h _ refl e n in
+        let b = back-within (s .nx + 1) ((s .nx + 1) * (s .ny + 1)) (s .nx) (q .own) _ _ x d (further k) h in
+        (omega arith, omega arith)
+    go Centre k =
+        let w = site-centre s (lineAt q x) f k d h _ refl e n in
+        let b = back-within (s .nx) (s .nx * s .ny) (s .nx + 1) (q .own) (q .across) (q .across + x) x d refl h in
+        (omega arith, omega arith)
 
 -- where the byte stands
 pub byte-start : (p c e : ℕ) → 1 ≤ c → c ≤ 7 → 7 * p + (c - 1) ≡ edgeByte p c e

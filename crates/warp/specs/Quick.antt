@@ -1,13 +1,19 @@
 -- What the quick tests of a point compute and say. They never decide that a point moves, only that nothing has to be searched.
-use Prim.Native.Nat.{ℕ, _+_, _-_}
+use Prim.Native.Nat.{ℕ, _+_, _*_, _-_, _≤_, _<_}
 use mathlib.Core.Path.{_≡_}
 use mathlib.Core.Bool.{false}
 use mathlib.Core.List.{List}
 use lib.Dec.{eqb}
+use lib.ListN.{length, getD, take}
 use Rattle.basics.specs.Choice.{if_then_else_}
+use Rattle.lattice.specs.declared.Sizes.{Sizes}
+use Rattle.lattice.specs.declared.Kind.{Kind}
+use Rattle.lattice.specs.declared.Kind.the-variants.{Corner, Centre}
+use Rattle.lattice.specs.declared.Site.{Site}
+use Rattle.lattice.specs.Counts.{points}
 use Rattle.lattice.specs.Direction.{Code}
 use Rattle.moving.specs.Block.{Block}
-use Rattle.moving.specs.Moving.{violatedBy}
+use Rattle.moving.specs.Moving.{violatedBy, codes}
 
 -- the start of the edge in direction d that ends at a point: along a long edge some numbers before the point's own, along a short one
 -- a corner of a face of the other grid, whose lowest corner is `low`
@@ -21,6 +27,23 @@ startBack line layer wide own low d =
     else if eqb d 5 then low + wide
     else low + wide + 1
 
+-- the same from the sizes: a corner is the end of edges from the eight centres about it, a centre from the corners of its cube
+abbrev pub startOf : Kind → Sizes → Site → ℕ → ℕ
+startOf Corner s q = startBack (s .nx + 1) ((s .nx + 1) * (s .ny + 1)) (s .nx) (q .own) (q .across - (s .nx * s .ny + (s .nx + 1)))
+startOf Centre s q = startBack (s .nx) (s .nx * s .ny) (s .nx + 1) (q .own) (q .across)
+
+unfoldable pub startAt : Sizes → Site → ℕ → ℕ
+startAt s q = startOf (q .kind) s q
+
+-- no cut on the edges that start at the m + 1 points from one on
+pub record Uncut (cuts : List ℕ) (from m : ℕ) : Type 0 where
+  pub none : (p : ℕ) → from ≤ p → p ≤ from + m → (d : ℕ) → d < 7 → getD cuts (7 * p + d) 0 ≡ 0
+
 -- whatever has moved, no cut violates the point
 pub record Idle (b : Block) (p : ℕ) : Type 0 where
   pub unviolated : (done : List ℕ) (c : ℕ) → Code c → violatedBy b done p c ≡ false
+
+-- the codes of the points before p stand in a state table
+pub record Coded (b : Block) (p : ℕ) (state : List ℕ) : Type 0 where
+  pub long : length state ≡ points (b .sizes)
+  pub done : take p state ≡ codes b p

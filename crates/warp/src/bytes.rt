@@ -1,18 +1,25 @@
 // The cut bytes of a point's fourteen edges, by strides: quick, and without asking which of the
 // edges exist.
+use audit::ranges;
+use audit::walk;
 use lattice::Kind;
 use lattice::Site;
 use lattice::Sizes;
 ghost use mathlib.Core.Path.{_≡_};
 ghost use mathlib.Core.Bool.{true};
+ghost use mathlib.Core.List.{List};
 ghost use Prim.Native.Nat.{ℕ, _+_, _*_, _-_, _<_, _≤_};
-ghost use lib.ListN.{length, getD};
+ghost use lib.IntN.{ℤ};
+ghost use lib.ListN.{getD};
 ghost use Rattle.lattice.specs.declared.Near.the-variants.{At};
-ghost use Rattle.lattice.specs.Counts.{Sized, points};
+ghost use Rattle.lattice.specs.Axis.{along-x};
+ghost use Rattle.lattice.specs.Counts.{Sized, grid};
 ghost use Rattle.lattice.specs.Direction.{Code};
 ghost use Rattle.lattice.specs.Edge.{near, edgeByte};
 ghost use Rattle.lattice.specs.Site.{Sited, index};
-ghost use Rattle.warp.specs.Quick.{startBack};
+ghost use Rattle.moving.specs.Block.{blockOf};
+ghost use Rattle.audit.specs.Lines.{Line};
+ghost use Rattle.warp.specs.Quick.{startBack, startAt, Uncut, Idle};
 
 // So many numbers before p, or 0.
 fn before(p: usize, stride: usize) -> usize
@@ -44,6 +51,7 @@ fn start_of(s: Sizes, q: Site, d: usize) -> usize
     requires { ⌜ Sited s q ⌝ }
     requires { ⌜ d < 7 ⌝ }
     ensures { λ r. ⌜ ((e : ℕ) → near s (q .kind) (index q) (d + 8) ≡ At e → r ≡ e) × (r ≤ 1100000) ⌝ }
+    ensures { λ r. ⌜ r ≡ startAt s q d ⌝ }
 {
     let kind = q.kind;
     match kind {
@@ -91,19 +99,6 @@ pub fn cut_by(s: Sizes, cuts: &[u8], q: Site, code: usize) -> u8
     0
 }
 
-// No cut on the edges that start at a point: the seven bytes of its part of the cut table are zero.
-pub fn starts_no_cut(part: &[u8]) -> bool
-    requires { ⌜ length (now part) ≡ 7 ⌝ }
-    ensures { λ r. ⌜ (r ≡ true → (d : ℕ) → d < 7 → getD (now (part .entry)) d 0 ≡ 0) ⌝ }
-{
-    for d in 0..7 {
-        if part[d] != 0 {
-            return false;
-        }
-    }
-    true
-}
-
 // No cut on the edges that end at a point.
 pub fn ends_no_cut(s: Sizes, cuts: &[u8], q: Site) -> bool
     requires { ⌜ Sized s ⌝ }
@@ -118,4 +113,33 @@ pub fn ends_no_cut(s: Sizes, cuts: &[u8], q: Site) -> bool
     let third = cut_by(s, cuts, q, 13) as usize;
     let fourth = cut_by(s, cuts, q, 14) as usize;
     along_x + along_y + along_z + (first + second + third + fourth) == 0
+}
+
+// No cut starts at any of m + 1 points from one on.
+fn is_uncut(cuts: &[u8], from: usize, m: usize) -> bool
+    requires { ⌜ (from ≤ 1100000) × (m ≤ 65) ⌝ }
+    ensures { λ r. ⌜ (r ≡ true → Uncut (now (cuts .entry)) from m) ⌝ }
+{
+    ranges::is_blank(cuts, 7 * from, 7 * (from + m + 1))
+}
+
+// No cut on any edge of a line of points: none starts on the line, nor where an edge that ends on it
+// starts. Those starts stand side by side, so five ranges hold them all.
+pub fn is_idle_line(s: Sizes, cuts: &[u8], q: Site) -> bool
+    requires { ⌜ Sized s ⌝ }
+    requires { ⌜ Line s (q .own) q ⌝ }
+    ensures { λ r. ⌜ (r ≡ true → (samples : List ℤ) (x : ℕ) → x < grid s (q .kind) along-x → Idle (blockOf s samples (now (cuts .entry))) (q .own + x)) ⌝ }
+{
+    let kind = q.kind;
+    let m = walk::line_length(s, kind);
+    if is_uncut(cuts, start_of(s, q, 0), m) {
+        if is_uncut(cuts, start_of(s, q, 1), m) {
+            if is_uncut(cuts, start_of(s, q, 2), m) {
+                if is_uncut(cuts, start_of(s, q, 3), m) {
+                    return is_uncut(cuts, start_of(s, q, 5), m);
+                }
+            }
+        }
+    }
+    false
 }

@@ -3,4 +3,3 @@ pub mod bytes;
 pub mod labels;
 pub mod moves;
 pub mod violation;
-pub mod walk;

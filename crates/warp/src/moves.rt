@@ -1,7 +1,8 @@
 // Which points move, and by which code.
 use crate::bytes;
 use crate::violation;
-use crate::walk;
+use audit::ranges;
+use audit::walk;
 use lattice::Near;
 use lattice::Site;
 use lattice::Sizes;
@@ -11,18 +12,20 @@ use lattice::numbers;
 ghost use mathlib.Core.Path.{_≡_};
 ghost use mathlib.Core.Bool.{true};
 ghost use mathlib.Core.List.{List};
-ghost use Prim.Native.Nat.{ℕ, _<_};
+ghost use Prim.Native.Nat.{ℕ, _+_, _<_, _≤_};
 ghost use lib.ListN.{length};
 ghost use Rattle.lattice.specs.declared.Sizes.{Sizes};
 ghost use Rattle.lattice.specs.declared.Near.the-variants.{At};
-ghost use Rattle.lattice.specs.Counts.{points};
+ghost use Rattle.lattice.specs.Axis.{along-x};
+ghost use Rattle.lattice.specs.Counts.{grid, points};
 ghost use Rattle.lattice.specs.Direction.{Code};
 ghost use Rattle.lattice.specs.Site.{Sited};
-ghost use Rattle.moving.specs.Block.{blockOf, Tabled};
+ghost use Rattle.moving.specs.Block.{Block, blockOf, Tabled};
 ghost use Rattle.moving.specs.Label.{isZero};
-ghost use Rattle.moving.specs.Moving.{labelAfter, violatedAlong, violatedBy, stateOf};
+ghost use Rattle.moving.specs.Moving.{labelAfter, violatedAlong, violatedBy, codes, stateOf};
 ghost use Rattle.filling.specs.Fill.{movedCount};
-ghost use Rattle.warp.specs.Quick.{Idle};
+ghost use Rattle.audit.specs.Lines.{Line};
+ghost use Rattle.warp.specs.Quick.{Idle, Coded};
 
 // A point's label is zero: its sample is, or it is among the points done and has moved. Sizes and
 // cuts do not enter.
@@ -110,14 +113,61 @@ fn is_idle(s: Sizes, samples: &[i16], cuts: &[u8], q: Site) -> bool
         return true;
     }
     let at = 7 * p;
-    if bytes::starts_no_cut(&cuts[at..at + 7]) {
+    if ranges::is_blank(cuts, at, at + 7) {
         return bytes::ends_no_cut(s, cuts, q);
     }
     false
 }
 
-// Points are taken once each, in ascending number; the search of a point sees the codes of those
-// before it and stops at the first code that violates. The answer counts the points that move.
+// The codes of a line of points, where the codes before it stand in the table; the search of a point
+// stops at the first code that violates. The answer counts the points that move.
+fn warp_line(s: Sizes, samples: &[i16], cuts: &[u8], state: &mut [u8], q: Site) -> usize
+    requires { ⌜ Tabled (blockOf s (now samples) (now cuts)) ⌝ }
+    requires { ⌜ Line s (q .own) q ⌝ }
+    requires { ⌜ Coded (blockOf s (now samples) (now cuts)) (q .own) (now state) ⌝ }
+    ensures { λ r. ⌜ Coded (blockOf s (now (samples .entry)) (now (cuts .entry))) (q .own + grid s (q .kind) along-x) (now (state .exit)) ⌝ }
+    ensures { λ r. ⌜ r + movedCount (codes (blockOf s (now (samples .entry)) (now (cuts .entry))) (q .own)) ≡ movedCount (codes (blockOf s (now (samples .entry)) (now (cuts .entry))) (q .own + grid s (q .kind) along-x)) ⌝ }
+{
+    let kind = q.kind;
+    let own = q.own;
+    let m = walk::line_length(s, kind);
+    let mut moved: usize = 0;
+    for x in 0..m {
+        let p = own + x;
+        let here = walk::along(q, x);
+        let mut code: u8 = 1;
+        if is_idle(s, samples, cuts, here) {
+            code = 15;
+        }
+        let found = 'search: loop {
+            if 14 < code {
+                break 'search 0;
+            }
+            if is_violated(s, samples, cuts, &state[..p], here, code as usize) {
+                break 'search code;
+            }
+            code += 1;
+        };
+        state[p] = found;
+        if found != 0 {
+            moved += 1;
+        }
+    }
+    moved
+}
+
+// The codes of points that do not move.
+fn rest(state: &mut [u8], from: usize, to: usize)
+    requires { ⌜ (from ≤ to) × (to ≤ length (now state)) ⌝ }
+    ensures { λ r. ⌜ ((b : Block) → Coded b from (now (state .entry)) → ((p : ℕ) → from ≤ p → p < to → Idle b p) → Coded b to (now (state .exit))) ⌝ }
+{
+    for p in from..to {
+        state[p] = 0;
+    }
+}
+
+// Points are taken once each, in ascending number, a line at a time: the search of a point sees the
+// codes of those before it. Most lines are far from any cut. The answer counts the points that move.
 pub fn warp(s: Sizes, samples: &[i16], cuts: &[u8], state: &mut [u8]) -> usize
     requires { ⌜ Tabled (blockOf s (now samples) (now cuts)) ⌝ }
     requires { ⌜ length (now state) ≡ points s ⌝ }
@@ -127,26 +177,18 @@ pub fn warp(s: Sizes, samples: &[i16], cuts: &[u8], state: &mut [u8]) -> usize
     let n = counts::point_count(s);
     let mut q = numbers::locate(s, 0);
     let mut moved: usize = 0;
-    for p in 0..n {
-        let mut code: u8 = 1;
-        if is_idle(s, samples, cuts, q) {
-            code = 15;
+    let mut p = 0;
+    while p < n {
+        let kind = q.kind;
+        let end = p + walk::line_length(s, kind);
+        if bytes::is_idle_line(s, cuts, q) {
+            rest(state, p, end);
+        } else {
+            moved += warp_line(s, samples, cuts, state, q);
         }
-        let found = 'search: loop {
-            if 14 < code {
-                break 'search 0;
-            }
-            if is_violated(s, samples, cuts, &state[..p], q, code as usize) {
-                break 'search code;
-            }
-            code += 1;
-        };
-        state[p] = found;
-        if found != 0 {
-            moved += 1;
-        }
-        if p + 1 < n {
-            q = walk::next_site(s, q);
+        p = end;
+        if p < n {
+            q = walk::next_line(s, q);
         }
     }
     moved

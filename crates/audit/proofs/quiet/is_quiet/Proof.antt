@@ -32,7 +32,7 @@ returns c =
     let c4 = c .before .before .before .before in
     let c5 = c4 .before in
     let c7 = c5 .before .before in
-    λ t. quiet-fine (c7 .args .s) (c7 .args .samples .now) (c7 .args .q) (c7 .pre .0) (c5 .is-inner .ensures (c4 .if1 .taken)) _ (c .before .before .before .ends .ensures) (c7 .args .bytes .now) (c .before .before .is-calm .ensures (c .before .if2 .taken)) (c .is-blank .ensures t)
+    λ t. quiet-fine (c7 .args .s) (c7 .args .samples .now) (c7 .args .q) (c7 .pre .0) (c5 .is-inner .ensures (c4 .if1 .taken)) _ (c .before .before .before .ends .ensures) (c7 .args .bytes .now) (c .before .before .is-calm .ensures (c .before .if2 .taken)) (λ d l. c .is-blank .ensures t d (omega arith) l)
 
 returns-2 : tie.Need-returns-2
 returns-2 c = λ t. absurd (subst T (sym t) tt)

@@ -10,7 +10,7 @@ use Rattle.lattice.specs.Direction.{step}
 use Rattle.lattice.proofs.Bounds.{points-small}
 use Rattle.lattice.proofs.Edge.{neighbour-lt}
 use Rattle.moving.specs.Violation.{measured}
-use Rattle.warp.proofs.Next.{siting}
+use Rattle.warp.proofs.Sites.{siting}
 use Rattle.warp.proofs.Codes.{byte-lt}
 use Rattle.places.specs.Places.{along}
 use Rattle.places.proofs.Decoded.{site-leads, site-rest, site-le}

@@ -38,7 +38,7 @@ returns-2 : tie.Need-returns-2
 returns-2 c =
     let a = c .before .before .args in
     let code : a .code - 8 + 8 ≡ a .code = omega arith in
-    λ e n. ap (λ (k : ℕ). 7 * k + (a .code - 8)) (c .start-of .ensures .0 e (ap (near (a .s) (a .q .kind) (index (a .q))) code ∙ n))
+    λ e n. ap (λ (k : ℕ). 7 * k + (a .code - 8)) (c .start-of .ensures .0 .0 e (ap (near (a .s) (a .q .kind) (index (a .q))) code ∙ n))
     ∙ byte-end _ _ e (c .before .if1 .left) (c .before .before .pre .1 .1 .high)
 
 pub byte-of-spec : {M : Type 1} → statement M

@@ -1,6 +1,9 @@
 -- The strides of the kind at hand. Assumes nothing.
 use native.Mathlib.Nat.{mul-le-mul}
 use native.Mathlib.Omega.{arith}
+use mathlib.Core.Path.{sym, ap, _∙_}
+use Rattle.lattice.specs.declared.Kind.{Kind}
+use Rattle.warp.specs.Quick.{startOf, startAt}
 use Rattle.lattice.proofs.Bounds.{small}
 use Rattle.lattice.proofs.Sites.{numbers-small}
 use Rattle.warp.proofs.Starts.{low-fits, site-corner, site-centre, back-small}
@@ -49,21 +52,31 @@ start-back-requires-2 : tie.Need-start-back-requires-2
 start-back-requires-2 c κs = let a = c .before .before .before in omega (arith, numbers-small (a .args .s) (a .args .q) (a .pre .0) (a .pre .1 .0))
 
 returns : tie.Need-returns
+unfolding startAt
 returns c =
     let a = c .before .before .before .before .before .before in
     let n = numbers-small (a .args .s) (a .args .q) (a .pre .0) (a .pre .1 .0) in
+    let k = c .before .before .before .before .enum-told .given .1 in
     let r = c .start-back .ensures in (
-      site-corner (a .args .s) (a .args .q) (a .pre .1 .0) (c .before .before .before .before .enum-told .given .1) _ (a .pre .1 .1) _ r,
-      rw r (back-small _ _ _ _ _ _ (omega arith) (omega arith) (omega arith) (a .pre .1 .1)),
+      (
+        site-corner (a .args .s) (a .args .q) (a .pre .1 .0) k _ (a .pre .1 .1) _ r,
+        rw r (back-small _ _ _ _ _ _ (omega arith) (omega arith) (omega arith) (a .pre .1 .1)),
+      ),
+      r ∙ sym (ap (λ (l : Kind). startOf l (a .args .s) (a .args .q) (a .args .d)) k),
     )
 
 returns-2 : tie.Need-returns-2
+unfolding startAt
 returns-2 c =
     let a = c .before .before .before .before in
     let n = numbers-small (a .args .s) (a .args .q) (a .pre .0) (a .pre .1 .0) in
+    let k = c .before .before .enum-told2 .given .1 in
     let r = c .start-back2 .ensures in (
-      site-centre (a .args .s) (a .args .q) (a .pre .1 .0) (c .before .before .enum-told2 .given .1) _ (a .pre .1 .1) _ r,
-      rw r (back-small _ _ _ _ _ _ (omega arith) (omega arith) (omega arith) (a .pre .1 .1)),
+      (
+        site-centre (a .args .s) (a .args .q) (a .pre .1 .0) k _ (a .pre .1 .1) _ r,
+        rw r (back-small _ _ _ _ _ _ (omega arith) (omega arith) (omega arith) (a .pre .1 .1)),
+      ),
+      r ∙ sym (ap (λ (l : Kind). startOf l (a .args .s) (a .args .q) (a .args .d)) k),
     )
 
 pub start-of-spec : {M : Type 1} → statement M

@@ -1,6 +1,6 @@
 -- A zero sample, or fourteen zero bytes. Assumes nothing.
 use native.Mathlib.Omega.{arith}
-use Prim.Native.Nat.{ℕ, _+_, _*_, _-_}
+use Prim.Native.Nat.{ℕ}
 use mathlib.Core.Path.{_≡_}
 use Rattle.warp.proofs.Signs.{bits-zero}
 use Rattle.warp.proofs.Idle.{own-fits, idle-sample, idle-cuts}
@@ -26,33 +26,22 @@ mul-at c =
     let a = c .before .before .before in
     omega (arith, own-fits (a .args .s) (a .args .samples .now) (a .args .cuts .now) (a .args .q) (a .pre .0) (a .pre .1))
 
-add-starts-no-cut : tie.Need-add-starts-no-cut
-add-starts-no-cut c =
+add-is-blank : tie.Need-add-is-blank
+add-is-blank c =
     let a = c .before .before .before in
     omega (arith, own-fits (a .args .s) (a .args .samples .now) (a .args .cuts .now) (a .args .q) (a .pre .0) (a .pre .1))
 
-sub-starts-no-cut : tie.Need-sub-starts-no-cut
-sub-starts-no-cut c = search needs
-
-part-starts-no-cut-start : tie.Need-part-starts-no-cut-start
-part-starts-no-cut-start c = search needs
-
-part-starts-no-cut-end : tie.Need-part-starts-no-cut-end
-part-starts-no-cut-end c =
-    let a = c .before .before .before in
-    omega (arith, own-fits (a .args .s) (a .args .samples .now) (a .args .cuts .now) (a .args .q) (a .pre .0) (a .pre .1))
-
-starts-no-cut-requires : tie.Need-starts-no-cut-requires
-starts-no-cut-requires c κs = search needs
+is-blank-requires : tie.Need-is-blank-requires
+is-blank-requires c κs = search needs
 
 ends-no-cut-requires : tie.Need-ends-no-cut-requires
 ends-no-cut-requires c κs = search needs
 
 returns-2 : tie.Need-returns-2
 returns-2 c =
-    let a = c .before .before .before .before .before .before .before in
-    λ t. idle-cuts _ (a .args .q) (a .pre .0 .sized) (a .pre .1) (7 * a .args .q .own + 7 - 7 * a .args .q .own) (omega arith)
-    (c .before .before .starts-no-cut .ensures (c .before .if2 .taken)) (c .ends-no-cut .ensures t)
+    let a = c .before .before .before .before .before .before in
+    λ t. idle-cuts _ (a .args .q) (a .pre .0 .sized) (a .pre .1)
+    (λ d l. c .before .before .is-blank .ensures (c .before .if2 .taken) _ (omega arith) (omega arith)) (c .ends-no-cut .ensures t)
 
 returns-3 : tie.Need-returns-3
 returns-3 c = λ t. let z : _≡_ {A = ℕ} 0 1 = cc in absurd (omega arith)
@@ -65,11 +54,8 @@ is-idle-spec =
     shared-slice-copy-out-if1
     returns
     mul-at
-    add-starts-no-cut
-    sub-starts-no-cut
-    part-starts-no-cut-start
-    part-starts-no-cut-end
-    starts-no-cut-requires
+    add-is-blank
+    is-blank-requires
     ends-no-cut-requires
     returns-2
     returns-3)

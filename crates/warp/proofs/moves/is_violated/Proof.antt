@@ -1,7 +1,7 @@
 -- A byte that does not violate needs no neighbour. Assumes nothing.
 use mathlib.Core.Path.{sym, ap, _∙_}
 use Rattle.moving.specs.Violation.{violates}
-use Rattle.warp.proofs.Next.{site-near}
+use Rattle.warp.proofs.Sites.{site-near}
 use Rattle.warp.proofs.Idle.{unviolated}
 use borrow.Author.Needs.{needs}
 use Rattle.warp.proofs.moves.is_violated.Statement.{statement}

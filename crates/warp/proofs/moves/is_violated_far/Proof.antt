@@ -2,7 +2,7 @@
 use mathlib.Core.Path.{sym, ap, _∙_}
 use Rattle.lattice.proofs.Edge.{neighbour-lt}
 use Rattle.moving.specs.Moving.{violatedAlong}
-use Rattle.warp.proofs.Next.{site-lt, site-near}
+use Rattle.warp.proofs.Sites.{site-lt, site-near}
 use borrow.Author.Needs.{needs}
 use Rattle.warp.proofs.moves.is_violated_far.Statement.{statement}
 use Rattle.warp.proofs.moves.is_violated_far.Tie as tie

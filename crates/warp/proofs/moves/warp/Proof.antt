@@ -1,155 +1,171 @@
--- Every point's search is the definition's, and the table grows by its code. Assumes nothing.
+-- The loop's invariant: the points before p are done, and q starts the line at p. Assumes nothing.
 use native.Mathlib.Omega.{arith}
-use Prim.Native.Nat.{ℕ, _+_, _-_}
-use mathlib.Core.Path.{_≡_, refl, sym, ap, _∙_}
+use Prim.Native.Nat.{_+_, _-_}
+use mathlib.Core.Path.{_≡_, refl, sym, _∙_}
 use mathlib.Core.Logic.{⊎-elim}
 use lib.ListN.{length, take}
-use lib.Seq.{length-take-le}
-use borrow.Author.Needs.{needs}
 use Rattle.basics.specs.Lists.{count}
-use Rattle.lattice.specs.Site.{siteOf}
+use Rattle.lattice.proofs.Bounds.{points-small}
 use Rattle.moving.specs.Block.{blockOf}
 use Rattle.moving.specs.Moving.{codes}
 use Rattle.filling.specs.Fill.{movedCount}
-use Rattle.warp.proofs.Next.{siting, some-point}
-use Rattle.warp.proofs.Codes.{Searching, search-starts, search-on, search-ends, search-finds, at-point}
-use Rattle.warp.proofs.Codes.{Warped, warped-next, warped-whole, warped-few, count-move, count-stay}
-use Rattle.warp.proofs.Idle.{search-idle}
+use Rattle.audit.proofs.Points.{points-some}
+use Rattle.audit.proofs.Lines.{line-on, line-first}
+use Rattle.warp.proofs.Codes.{Warped, warped-whole, counted-few}
+use Rattle.warp.proofs.Passed.{Passed, line-here, coded-here, fits, after, passed-idle, passed-walked, walked-few}
 use Rattle.warp.proofs.moves.warp.Statement.{statement}
 use Rattle.warp.proofs.moves.warp.Tie as tie
 
-abbrev Inv-search : tie.InvT-search
-Inv-search s samples cuts state n q moved p code₀ code = Searching (blockOf s samples cuts) (take p state) p code
-
-abbrev μ-search : tie.MeasureT-search
-μ-search s samples cuts state n q moved p code₀ code = 15 - code
-
 abbrev Inv-loop : tie.InvT-loop
-Inv-loop s samples cuts state₀ n q₀ moved₀ p₀ state q moved p = Warped (blockOf s samples cuts) n (length state₀) state q moved p
+Inv-loop s samples cuts state₀ n q₀ moved₀ p₀ state q moved p = Warped (blockOf s samples cuts) n state q moved p
 
 abbrev μ-loop : tie.MeasureT-loop
 μ-loop s samples cuts state₀ n q₀ moved₀ p₀ state q moved p = n - p
 
-point-count-requires : tie.Need-point-count-requires Inv-search μ-search Inv-loop μ-loop
+point-count-requires : tie.Need-point-count-requires Inv-loop μ-loop
 point-count-requires c κs = c .before .before .pre .0 .sized
 
-locate-requires : tie.Need-locate-requires Inv-search μ-search Inv-loop μ-loop
-locate-requires c κs = let a = c .before .before .before in (a .pre .0 .sized, some-point (a .args .s))
+locate-requires : tie.Need-locate-requires Inv-loop μ-loop
+locate-requires c κs = let a = c .before .before .before in (a .pre .0 .sized, points-some (a .args .s) (a .pre .0 .sized))
 
-loop-holds : tie.Need-loop-holds Inv-search μ-search Inv-loop μ-loop
+loop-holds : tie.Need-loop-holds Inv-loop μ-loop
 unfolding codes movedCount count
 loop-holds c =
     let a = c .before .before .before .before in
-    let f = siting (a .args .s) 0 _ (c .locate .ensures) (some-point (a .args .s)) in
-    record { high = omega arith; same-length = refl; done = refl; counted = refl; sited = λ l. f .0; here = λ l. f .1 }
+    record {
+      high = omega arith;
+      coded = record { long = a .pre .1; done = refl };
+      counted = refl;
+      line = λ l. line-first (a .pre .0 .sized) (c .locate .ensures);
+    }
 
-is-idle-requires : tie.Need-is-idle-requires Inv-search μ-search Inv-loop μ-loop
-is-idle-requires c κs = (c .before .before .before .before .before .before .pre .0, c .before .loop .inv .sited (c .loop-test .taken))
+line-length-requires : tie.Need-line-length-requires Inv-loop μ-loop
+line-length-requires c κs = c .before .before .before .before .before .before .pre .0 .sized
 
-search-holds : tie.Need-search-holds Inv-search μ-search Inv-loop μ-loop
-search-holds c =
-    let d = c .before .before .before in
-    let i = d .loop .inv in
-    let l = c .before .before .loop-test .taken in
-    ⊎-elim (λ w. rw (w .1) (search-idle _ (rw (i .here l) at (c .before .is-idle .ensures (w .0 .taken))))) (λ w. rw (w .1) search-starts)
-    (c .if1 .came)
-
-slice-reshare-prefix-is-violated :
-    tie.Need-slice-reshare-prefix-is-violated Inv-search μ-search Inv-loop μ-loop
-slice-reshare-prefix-is-violated c = omega arith
-
-slice-aggregate-is-violated :
-    tie.Need-slice-aggregate-is-violated Inv-search μ-search Inv-loop μ-loop
-slice-aggregate-is-violated c = sym (length-take-le _ _ (omega arith))
-
-is-violated-requires : tie.Need-is-violated-requires Inv-search μ-search Inv-loop μ-loop
-is-violated-requires c κs =
-    let d = c .before .before in
-    let l = d .before .before .before .before .before .loop in (
-      d .before .before .before .before .before .before .before .before .before .before .pre .0,
-      (record { low = d .before .search .inv .low; high = d .if2 .left }, l .inv .sited (d .before .before .before .before .loop-test .taken)),
+add-end : tie.Need-add-end Inv-loop μ-loop
+add-end c =
+    let a = c .before .before .before .before .before .before .before in
+    let i = c .before .before .loop .inv in
+    omega (
+      arith,
+      points-small (a .args .s) (a .pre .0 .sized),
+      c .before .before .before .before .point-count .ensures,
+      c .line-length .ensures .1,
     )
 
-add-code : tie.Need-add-code Inv-search μ-search Inv-loop μ-loop
-add-code c = omega arith
+is-idle-line-requires : tie.Need-is-idle-line-requires Inv-loop μ-loop
+is-idle-line-requires c κs =
+    let a = c .before .before .before .before .before .before .before in (a .pre .0 .sized, line-here _ (c .before .before .loop .inv) (c .before .loop-test .taken) (c .line-length .ensures .0))
 
-search-less : tie.Need-search-less Inv-search μ-search Inv-loop μ-loop
-search-less c = omega arith
+rest-requires : tie.Need-rest-requires Inv-loop μ-loop
+rest-requires c κs =
+    let l = c .before .before .before in
+    let i = l .before .before .loop .inv in
+    let k = l .before .before .before .before in
+    let a = k .before .before .before in
+    let f = fits _ i (l .before .loop-test .taken) (l .line-length .ensures .0) (a .pre .0 .sized) (k .point-count .ensures) in
+    (omega arith, omega (arith, i .coded .long, k .point-count .ensures))
 
-search-again : tie.Need-search-again Inv-search μ-search Inv-loop μ-loop
-search-again c =
-    let d = c .before .before .before .before in
-    search-on (d .before .search .inv) (d .if2 .left)
-    (at-point _ _ _ (c .before .is-violated .ensures) (d .before .before .before .before .before .loop .inv .here (d .before .before .before .before .loop-test .taken))
-    (c .if3 .left))
+warp-line-requires : tie.Need-warp-line-requires Inv-loop μ-loop
+warp-line-requires c κs =
+    let l = c .before .before .before in
+    let i = l .before .before .loop .inv in
+    let h = l .before .loop-test .taken in
+    let a = l .before .before .before .before .before .before .before in
+    (a .pre .0, (line-here _ i h (l .line-length .ensures .0), coded-here _ i h (l .line-length .ensures .0)))
 
-slice-write-state : tie.Need-slice-write-state Inv-search μ-search Inv-loop μ-loop
-slice-write-state c = omega arith
+add-moved : tie.Need-add-moved Inv-loop μ-loop
+add-moved c =
+    let l = c .before .before .before .before .before .before in
+    let i = l .before .before .loop .inv in
+    let h = l .before .loop-test .taken in
+    let k = l .before .before .before .before in
+    let a = k .before .before .before in
+    let b = blockOf (a .args .s) (a .args .samples .now) (a .args .cuts .now) in
+    omega (
+      arith,
+      walked-few b i h (l .line-length .ensures .0) (c .before .before .warp-line .result) (c .before .before .warp-line .ensures .1),
+      counted-few b (l .before .before .loop .p + l .line-length .result),
+      fits b i h (l .line-length .ensures .0) (a .pre .0 .sized) (k .point-count .ensures),
+      points-small (a .args .s) (a .pre .0 .sized),
+      k .point-count .ensures,
+    )
 
-add-moved : tie.Need-add-moved Inv-search μ-search Inv-loop μ-loop
-add-moved c = omega (arith, warped-few _ (c .before .before .before .before .before .before .loop .inv))
+next-line-requires : tie.Need-next-line-requires Inv-loop μ-loop
+next-line-requires c κs =
+    let l = c .before .before .before in
+    let i = l .before .before .loop .inv in
+    let h = l .before .loop-test .taken in
+    let e = l .line-length .ensures .0 in
+    let k = l .before .before .before .before in
+    let a = k .before .before .before in
+    (a .pre .0 .sized, (line-here _ i h e, omega (arith, after _ i h e, c .if2 .taken, k .point-count .ensures)))
 
-add-if5 : tie.Need-add-if5 Inv-search μ-search Inv-loop μ-loop
-add-if5 c = omega arith
+loop-less : tie.Need-loop-less Inv-loop μ-loop
+loop-less c = omega (arith, c .before .before .before .before .line-length .ensures .1)
 
-next-site-requires : tie.Need-next-site-requires Inv-search μ-search Inv-loop μ-loop
-next-site-requires c κs =
-    let a = c .before .before .before .before .before .before .before .before .before .before .before .before in
-    let i = c .before .before .before .before .before .before .before .loop .inv in
-    let l = c .before .before .before .before .before .before .loop-test .taken in
-    (a .pre .0 .sized, (i .sited l, omega (arith, i .here l)))
-
-add-p : tie.Need-add-p Inv-search μ-search Inv-loop μ-loop
-add-p c = omega arith
-
-loop-less : tie.Need-loop-less Inv-search μ-search Inv-loop μ-loop
-loop-less c = omega arith
-
-loop-again : tie.Need-loop-again Inv-search μ-search Inv-loop μ-loop
+loop-again : tie.Need-loop-again Inv-loop μ-loop
 loop-again c =
-    let a = c .before .before .before .before .before .before .before .before .before .before .before .before in
-    let i = c .before .before .before .before .before .before .before .loop .inv in
-    let j = c .before .before .before .search .inv in
-    let l = c .before .before .before .before .before .before .loop-test .taken in
-    warped-next _ i l (omega arith)
-    (⊎-elim (λ w. search-ends j (w .0 .taken) ∙ sym (w .1))
-    (λ w. search-finds j (w .0 .left) (at-point _ _ _ (w .3 .ensures) (i .here l) (w .4 .taken)) ∙ sym (w .5)) (c .before .before .if2 .came))
-    (⊎-elim (λ w. count-move _ _ _ (w .0 .taken) (w .1)) (λ w. count-stay _ _ _ (w .0 .left) (w .1)) (c .before .if4 .came))
-    (λ g. ⊎-elim
-    (λ w. siting (a .args .s) _ _ (w .2 ∙ w .1 .ensures ∙ ap (λ (n : ℕ). siteOf (a .args .s) (n + 1)) (i .here l)) (omega arith))
-    (λ w. absurd (omega (arith, w .0 .left))) (c .if5 .came))
+    let t = c .before .before .before in
+    let l = t .before in
+    let i = l .before .before .loop .inv in
+    let h = l .before .loop-test .taken in
+    let k = l .before .before .before .before in
+    let a = k .before .before .before in
+    let b = blockOf (a .args .s) (a .args .samples .now) (a .args .cuts .now) in
+    let e = l .line-length .ensures .0 in
+    let d = ⊎-elim (λ w. passed-idle b i h e (t .is-idle-line .ensures (w .0 .taken) _) (w .2 .ensures) (w .5) (w .6))
+        (λ w. passed-walked b i h e (w .2 .result) (w .2 .ensures .0) (w .2 .ensures .1) (w .5) (w .6)) (c .before .before .if1 .came) in
+    record {
+      high = omega (arith, c .before .if2 .taken);
+      coded = d .coded;
+      counted = d .counted;
+      line = λ g. line-on (i .line h) e (c .next-line .ensures);
+    }
 
-same-length : tie.Need-same-length Inv-search μ-search Inv-loop μ-loop
-same-length c = c .before .loop .inv .same-length
+loop-less-2 : tie.Need-loop-less-2 Inv-loop μ-loop
+loop-less-2 c = omega (arith, c .before .before .before .line-length .ensures .1)
 
-returns : tie.Need-returns Inv-search μ-search Inv-loop μ-loop
-returns c = warped-whole _ (c .before .loop .inv) (c .loop-test .left) (omega arith) (omega arith)
+loop-again-2 : tie.Need-loop-again-2 Inv-loop μ-loop
+loop-again-2 c =
+    let t = c .before .before in
+    let l = t .before in
+    let i = l .before .before .loop .inv in
+    let h = l .before .loop-test .taken in
+    let k = l .before .before .before .before in
+    let a = k .before .before .before in
+    let b = blockOf (a .args .s) (a .args .samples .now) (a .args .cuts .now) in
+    let e = l .line-length .ensures .0 in
+    let d = ⊎-elim (λ w. passed-idle b i h e (t .is-idle-line .ensures (w .0 .taken) _) (w .2 .ensures) (w .5) (w .6))
+        (λ w. passed-walked b i h e (w .2 .result) (w .2 .ensures .0) (w .2 .ensures .1) (w .5) (w .6)) (c .before .if1 .came) in
+    let f = fits b i h e (a .pre .0 .sized) (k .point-count .ensures) in
+    record { high = omega arith; coded = d .coded; counted = d .counted; line = λ g. absurd (omega (arith, c .if2 .left)) }
+
+same-length : tie.Need-same-length Inv-loop μ-loop
+same-length c = c .before .loop .inv .coded .long ∙ sym (c .before .before .before .before .before .before .pre .1)
+
+returns : tie.Need-returns Inv-loop μ-loop
+returns c = warped-whole _ (c .before .loop .inv) (c .loop-test .left) (c .before .before .before .point-count .ensures)
 
 pub warp-spec : {M : Type 1} → statement M
 warp-spec =
     tie.close
     (tie.spec
-    Inv-search
-    μ-search
     Inv-loop
     μ-loop
     point-count-requires
     locate-requires
     loop-holds
-    is-idle-requires
-    search-holds
-    slice-reshare-prefix-is-violated
-    slice-aggregate-is-violated
-    is-violated-requires
-    add-code
-    search-less
-    search-again
-    slice-write-state
+    line-length-requires
+    add-end
+    is-idle-line-requires
+    rest-requires
+    warp-line-requires
     add-moved
-    add-if5
-    next-site-requires
-    add-p
+    next-line-requires
     loop-less
     loop-again
+    loop-less-2
+    loop-again-2
     same-length
     returns)
