@@ -6,7 +6,7 @@ use mathlib.Core.Bool.{Bool, true, false}
 use lib.Dec.{T}
 use lib.IntN.{ℤ, pos, negsuc}
 use lib.Signed.{mag, ltZ}
-use borrow.Author.Tests.{lt-ltb, le-ltb, ne-eqb}
+use borrow.Author.Tests.{lt-ltb, le-ltb, ltb-true, ltb-false, ne-eqb}
 use mir.Syntax.{w16}
 use mir.Val.{ofZ, toZ, SFits}
 use mir.ValLaws.{toZ-ofZ}
@@ -35,7 +35,7 @@ module _ (x : ℤ) (f : SFits w16 x) where
   minus-test = ap (λ (z : ℤ). ltZ z (pos 0)) (toZ-ofZ w16 x f) ∙ beneath x
 
 -- a sample that was read and handed on
-handed : (x : ℤ) → mag x < 2 ^ 15 → toZ w16 (ofZ w16 x) ≡ x
+pub handed : (x : ℤ) → mag x < 2 ^ 15 → toZ w16 (ofZ w16 x) ≡ x
 handed x h = toZ-ofZ w16 x (record { sfits = h })
 
 pub plus-handed : (x : ℤ) → mag x < 2 ^ 15 → isPlus (labelOf (toZ w16 (ofZ w16 x))) ≡ isPlus (labelOf x)
@@ -84,3 +84,41 @@ same-sign false x y e f = go (labelOf x) e
     go Minus d = false-true (sym d)
     go Zero d = refl
     go Plus d = f
+
+-- the order of two samples, and their signs
+plus-down : (x y : ℤ) → ltZ x y ≡ true → ltZ (pos 0) y ≡ false → ltZ (pos 0) x ≡ false
+plus-down (negsuc a) y e f = refl
+plus-down (pos a) (negsuc b) e f = false-true e
+plus-down (pos a) (pos b) e f = let l = ltb-true a b e in let m = ltb-false 0 b f in absurd (omega arith)
+
+plus-up : (x y : ℤ) → ltZ x y ≡ false → ltZ (pos 0) x ≡ false → ltZ (pos 0) y ≡ false
+plus-up x (negsuc b) e f = refl
+plus-up (negsuc a) (pos b) e f = false-true (sym e)
+plus-up (pos a) (pos b) e f = let l = ltb-false a b e in let m = ltb-false 0 a f in le-ltb 0 b (omega arith)
+
+minus-up : (x y : ℤ) → ltZ x y ≡ true → ltZ x (pos 0) ≡ false → ltZ y (pos 0) ≡ false
+minus-up (negsuc a) y e f = false-true (sym f)
+minus-up (pos a) (negsuc b) e f = false-true e
+minus-up (pos a) (pos b) e f = le-ltb b 0 (omega arith)
+
+minus-down : (x y : ℤ) → ltZ x y ≡ false → ltZ y (pos 0) ≡ false → ltZ x (pos 0) ≡ false
+minus-down (pos a) y e f = le-ltb a 0 (omega arith)
+minus-down (negsuc a) (pos b) e f = false-true (sym e)
+minus-down (negsuc a) (negsuc b) e f = false-true (sym f)
+
+module _ (x y : ℤ) where
+  pub less-plus : ltZ x y ≡ true → hasSign true y ≡ false → hasSign true x ≡ false
+  unfolding hasSign
+  less-plus e f = sym (above x) ∙ plus-down x y e (above y ∙ f)
+
+  pub not-less-plus : ltZ x y ≡ false → hasSign true x ≡ false → hasSign true y ≡ false
+  unfolding hasSign
+  not-less-plus e f = sym (above y) ∙ plus-up x y e (above x ∙ f)
+
+  pub less-minus : ltZ x y ≡ true → hasSign false x ≡ false → hasSign false y ≡ false
+  unfolding hasSign
+  less-minus e f = sym (beneath y) ∙ minus-up x y e (beneath x ∙ f)
+
+  pub not-less-minus : ltZ x y ≡ false → hasSign false y ≡ false → hasSign false x ≡ false
+  unfolding hasSign
+  not-less-minus e f = sym (beneath x) ∙ minus-down x y e (beneath y ∙ f)

@@ -29,17 +29,45 @@ pub fn is_blank(bytes: &[u8], from: usize, to: usize) -> bool
     top == 0
 }
 
+// The highest sample from one on and before another, or 0 if none is above zero.
+fn highest(samples: &[i16], from: usize, to: usize) -> i16
+    requires { ⌜ length (now samples) ≤ 1000000 ⌝ }
+    ensures { λ r. ⌜ (hasSign true r ≡ false → (p : ℕ) → from ≤ p → p < to → hasSign true (getD (now (samples .entry)) p (pos 0)) ≡ false) ⌝ }
+{
+    let end = lesser(to, samples.len());
+    let mut most: i16 = 0;
+    for p in from..end {
+        let x = samples[p];
+        if most < x {
+            most = x;
+        }
+    }
+    most
+}
+
+// The lowest sample from one on and before another, or 0 if none is below zero.
+fn lowest(samples: &[i16], from: usize, to: usize) -> i16
+    requires { ⌜ length (now samples) ≤ 1000000 ⌝ }
+    ensures { λ r. ⌜ (hasSign false r ≡ false → (p : ℕ) → from ≤ p → p < to → hasSign false (getD (now (samples .entry)) p (pos 0)) ≡ false) ⌝ }
+{
+    let end = lesser(to, samples.len());
+    let mut least: i16 = 0;
+    for p in from..end {
+        let x = samples[p];
+        if x < least {
+            least = x;
+        }
+    }
+    least
+}
+
 // Some sample from one on and before another is above zero, or some is below.
 pub fn has_some(plus: bool, samples: &[i16], from: usize, to: usize) -> bool
     requires { ⌜ length (now samples) ≤ 1000000 ⌝ }
     ensures { λ r. ⌜ (r ≡ false → (p : ℕ) → from ≤ p → p < to → hasSign plus (getD (now (samples .entry)) p (pos 0)) ≡ false) ⌝ }
 {
-    let end = lesser(to, samples.len());
-    let mut found = false;
-    for p in from..end {
-        if signs::has_sign(plus, samples[p]) {
-            found = true;
-        }
+    if plus {
+        return signs::has_sign(plus, highest(samples, from, to));
     }
-    found
+    signs::has_sign(plus, lowest(samples, from, to))
 }

@@ -1,64 +1,39 @@
--- The loop's invariant: no sample seen has the sign, unless one was found. Assumes nothing.
-use Prim.Native.Nat.{_-_}
-use native.Mathlib.Omega.{arith}
-use mathlib.Core.Path.{sym, subst, _∙_}
-use mathlib.Core.Logic.{⊎-elim}
-use lib.Dec.{T}
+-- The outermost sample on the side that is asked for. Assumes nothing.
+use mathlib.Core.Path.{sym, ap, _∙_}
+use mathlib.Core.Bool.{Bool}
+use lib.IntN.{pos}
+use lib.ListN.{getD}
+use Rattle.audit.specs.Outside.{hasSign}
 use Rattle.audit.proofs.Labels.{sign-handed}
-use Rattle.audit.proofs.Folds.{Without, without-more, none-whole}
 use borrow.Author.Needs.{needs}
 use Rattle.audit.proofs.ranges.has_some.Statement.{statement}
 use Rattle.audit.proofs.ranges.has_some.Tie as tie
 
-abbrev Inv-loop : tie.InvT-loop
-Inv-loop plus samples from to end found₀ p₀ found p = Without plus samples from p found
+highest-requires : tie.Need-highest-requires
+highest-requires c κs = search needs
 
-abbrev μ-loop : tie.MeasureT-loop
-μ-loop plus samples from to end found₀ p₀ found p = end - p
-
-lesser-requires : tie.Need-lesser-requires Inv-loop μ-loop
-lesser-requires c κs = search needs
-
-loop-holds : tie.Need-loop-holds Inv-loop μ-loop
-loop-holds c = record { none = λ t j a b. absurd (omega arith) }
-
-mul-has-sign : tie.Need-mul-has-sign Inv-loop μ-loop
-mul-has-sign c = omega (arith, c .before .before .lesser .ensures .1)
-
-shared-slice-copy-out-has-sign : tie.Need-shared-slice-copy-out-has-sign Inv-loop μ-loop
-shared-slice-copy-out-has-sign c = omega (arith, c .before .before .lesser .ensures .1)
-
-has-sign-requires : tie.Need-has-sign-requires Inv-loop μ-loop
+has-sign-requires : tie.Need-has-sign-requires
 has-sign-requires c κs = search needs
 
-add-p : tie.Need-add-p Inv-loop μ-loop
-add-p c = omega arith
+returns : tie.Need-returns
+returns c =
+    let a = c .before .before .before .args in
+    λ t p l u. ap (λ (s : Bool). hasSign s (getD (a .samples .now) p (pos 0))) (c .before .before .if1 .taken)
+    ∙ c .before .highest .ensures (ap (λ (s : Bool). hasSign s (c .before .highest .result)) (sym (c .before .before .if1 .taken)) ∙ sym (sign-handed _ (c .before .highest .result) (c .before .highest .ok)) ∙ sym (c .has-sign .ensures) ∙ t) p l u
 
-loop-less : tie.Need-loop-less Inv-loop μ-loop
-loop-less c = omega arith
+lowest-requires : tie.Need-lowest-requires
+lowest-requires c κs = search needs
 
-loop-again : tie.Need-loop-again Inv-loop μ-loop
-loop-again c =
-    ⊎-elim (λ w. record { none = λ t. absurd (subst T (sym (w .1) ∙ t) tt) })
-    (λ w. without-more (c .before .before .before .before .loop .inv) (w .1)
-    (sym (sign-handed _ _ (c .before .before .has-sign-arg .given)) ∙ sym (c .before .has-sign .ensures) ∙ w .0 .left))
-    (c .if1 .came)
+has-sign-requires-2 : tie.Need-has-sign-requires-2
+has-sign-requires-2 c κs = search needs
 
-returns : tie.Need-returns Inv-loop μ-loop
-returns c = none-whole (c .loop-test .left) (c .before .before .lesser .ensures .2) (c .before .loop .inv)
+returns-2 : tie.Need-returns-2
+returns-2 c =
+    let a = c .before .before .before .args in
+    λ t p l u. ap (λ (s : Bool). hasSign s (getD (a .samples .now) p (pos 0))) (c .before .before .if1 .left)
+    ∙ c .before .lowest .ensures (ap (λ (s : Bool). hasSign s (c .before .lowest .result)) (sym (c .before .before .if1 .left)) ∙ sym (sign-handed _ (c .before .lowest .result) (c .before .lowest .ok)) ∙ sym (c .has-sign2 .ensures) ∙ t) p l u
 
 pub has-some-spec : {M : Type 1} → statement M
 has-some-spec =
     tie.close
-    (tie.spec
-    Inv-loop
-    μ-loop
-    lesser-requires
-    loop-holds
-    mul-has-sign
-    shared-slice-copy-out-has-sign
-    has-sign-requires
-    add-p
-    loop-less
-    loop-again
-    returns)
+    (tie.spec highest-requires has-sign-requires returns lowest-requires has-sign-requires-2 returns-2)

@@ -115,7 +115,7 @@ loop-again c =
     let b = blockOf (a .args .s) (a .args .samples .now) (a .args .cuts .now) in
     let e = l .line-length .ensures .0 in
     let d = ⊎-elim (λ w. passed-idle b i h e (t .is-idle-line .ensures (w .0 .taken) _) (w .2 .ensures) (w .5) (w .6))
-        (λ w. passed-walked b i h e (w .2 .result) (w .2 .ensures .0) (w .2 .ensures .1) (w .5) (w .6)) (c .before .before .if1 .came) in
+    (λ w. passed-walked b i h e (w .2 .result) (w .2 .ensures .0) (w .2 .ensures .1) (w .5) (w .6)) (c .before .before .if1 .came) in
     record {
       high = omega (arith, c .before .if2 .taken);
       coded = d .coded;
@@ -137,7 +137,7 @@ loop-again-2 c =
     let b = blockOf (a .args .s) (a .args .samples .now) (a .args .cuts .now) in
     let e = l .line-length .ensures .0 in
     let d = ⊎-elim (λ w. passed-idle b i h e (t .is-idle-line .ensures (w .0 .taken) _) (w .2 .ensures) (w .5) (w .6))
-        (λ w. passed-walked b i h e (w .2 .result) (w .2 .ensures .0) (w .2 .ensures .1) (w .5) (w .6)) (c .before .if1 .came) in
+    (λ w. passed-walked b i h e (w .2 .result) (w .2 .ensures .0) (w .2 .ensures .1) (w .5) (w .6)) (c .before .if1 .came) in
     let f = fits b i h e (a .pre .0 .sized) (k .point-count .ensures) in
     record { high = omega arith; coded = d .coded; counted = d .counted; line = λ g. absurd (omega (arith, c .if2 .left)) }
 

@@ -160,8 +160,7 @@ returns c =
     let a = l .before .before .before in
     let i = c .before .loop .inv in
     let b = blockOf (a .args .s) (a .args .samples .now) (a .args .cuts .now) in
-    let e : a .args .q .own + c .before .loop .x ≡ a .args .q .own + l .line-length .result = omega (arith, i .high) in
-    (
+    let e : a .args .q .own + c .before .loop .x ≡ a .args .q .own + l .line-length .result = omega (arith, i .high) in (
       subst (λ (k : ℕ). Coded b k (c .before .loop .state)) (e ∙ ap (λ (k : ℕ). a .args .q .own + k) (l .line-length .ensures .0)) (i .coded),
       i .counted ∙ ap (λ (k : ℕ). movedCount (codes b k)) (e ∙ ap (λ (k : ℕ). a .args .q .own + k) (l .line-length .ensures .0)),
     )
