@@ -4,6 +4,7 @@ use mathlib.Core.List.{List, []}
 use mathlib.Core.Bool.{Bool, _&&_}
 use lib.IntN.{ℤ, pos}
 use lib.Dec.{ltb, eqb}
+use lib.ListN.{getD}
 use lib.Signed.{ltZ}
 use Rattle.basics.specs.Lists.{gather, below}
 use Rattle.lattice.specs.declared.Sizes.{Sizes}
@@ -12,6 +13,7 @@ use Rattle.geometry.specs.Place.{Place}
 use Rattle.geometry.specs.Volume.{sixVolume}
 use Rattle.moving.specs.Block.{blockOf}
 use Rattle.moving.specs.declared.Label.{Label}
+use Rattle.moving.specs.Label.{labelOf}
 use Rattle.moving.specs.Moving.{labelAfter}
 use Rattle.stencil.proofs.Sign.{winds}
 use Rattle.emit.specs.declared.Tetra.{Tetra}
@@ -74,6 +76,10 @@ pub record SmallCube (w : CubeWeights) : Type 0 where
   pub pm-small : w .pm ≤ 5
   pub pp-small : w .pp ≤ 5
   pub mp-small : w .mp ≤ 5
+
+-- no sample of a line of so many points from one on is above zero
+abbrev pub Light : List ℤ → ℕ → ℕ → Type 0
+Light samples from count = (x : ℕ) → x < count → weight (labelOf (getD samples (from + x) (pos 0))) < 5
 
 -- none of the six is plus; all of them are
 unfoldable pub bare : CubeWeights → Bool

@@ -1,30 +1,21 @@
 // Runs of cubes without a plus, told from the samples of whole lines of points: quick where there is air.
 use crate::Cube;
+use audit::ranges;
 ghost use mathlib.Core.Path.{_≡_};
 ghost use mathlib.Core.Bool.{true, false};
 ghost use mathlib.Core.List.{List};
 ghost use Prim.Native.Nat.{ℕ, _+_, _<_, _≤_};
-ghost use lib.IntN.{pos};
-ghost use lib.ListN.{length, getD};
-ghost use Rattle.moving.specs.Label.{labelOf};
+ghost use lib.ListN.{length};
 ghost use Rattle.emit.specs.Corners.{most};
-ghost use Rattle.emit.specs.Picks.{weight};
-ghost use Rattle.emit.specs.Cubes.{bare, cubeWeights};
+ghost use Rattle.emit.specs.Cubes.{Light, bare, cubeWeights};
 ghost use Rattle.emit.specs.Passes.{movedCube, KnownRun};
 
-// A sample among so many from one on is above zero. Nothing leaves the loop, so that many are
-// tested at a time.
+// A line of so many points from one on has a sample above zero.
 fn has_plus(samples: &[i16], from: usize, count: usize) -> bool
     requires { ⌜ (from + count ≤ length (now samples)) × (length (now samples) ≤ most) ⌝ }
-    ensures { λ r. ⌜ (r ≡ false → (x : ℕ) → x < count → weight (labelOf (getD (now (samples .entry)) (from + x) (pos 0))) < 5) ⌝ }
+    ensures { λ r. ⌜ (r ≡ false → Light (now (samples .entry)) from count) ⌝ }
 {
-    let mut found = false;
-    for x in 0..count {
-        if 0 < samples[from + x] {
-            found = true;
-        }
-    }
-    found
+    ranges::has_some(true, samples, from, from + count)
 }
 
 // None of the points of so many cubes side by side along x has a sample above zero.
