@@ -1,10 +1,10 @@
-# run: measures of a block, read from the three size bytes with which a block file starts.
+# run: the bench program on document 01's given case.
 # test: the whole gate.
 .PHONY: run test
 
 run:
-	rt check measure >/dev/null
-	printf '\2\2\2' | target/bin/measure
+	@rt check bench >/dev/null
+	@target/bin/bench <crates/bench/stdin
 
 test:
 	bash .ci/run
