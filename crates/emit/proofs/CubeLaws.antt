@@ -3,12 +3,12 @@ use Prim.Native.Nat.{ℕ, zero, suc, _+_, _*_, _≤_, _<_}
 use native.Mathlib.Omega.{arith}
 use mathlib.Core.Path.{_≡_, refl, sym, ap, subst, _∙_}
 use mathlib.Core.Bool.{Bool, true, false, _&&_, false≢true}
-use mathlib.Core.List.{List, [], _∷_}
+use mathlib.Core.List.{List, [], _∷_, _++_}
 use borrow.Author.Tests.{ltb-true, lt-ltb, le-ltb, le-leb, eqb-true}
 use lib.Dec.{ltb}
 use lib.Seq.{sets}
 use lib.IntN.{ℤ}
-use lib.ListN.{length}
+use lib.ListN.{length, length-append}
 use Rattle.basics.specs.Lists.{gather, from, below}
 use Rattle.moving.specs.declared.Label.{Label}
 use Rattle.moving.specs.declared.Label.the-variants.{Minus, Zero, Plus}
@@ -22,9 +22,9 @@ use Rattle.emit.specs.declared.CubeWeights.{CubeWeights}
 use Rattle.emit.specs.Corners.{most, quarterAt}
 use Rattle.emit.specs.Picks.{weight, sum}
 use Rattle.emit.specs.Stencils.{KnownTetra, Small, Room, rowCount, tetraIds, solid}
-use Rattle.emit.specs.Cubes.{quarterOf, quarterWeights, KnownCube, SmallCube, bare, solidly, solidCube, labelIn, weightAt, cubeWeights, edgeIds, cubeIds}
+use Rattle.emit.specs.Cubes.{quarterOf, quarterWeights, KnownCube, SmallCube, bare, solidly, solidCube, cubeCount, labelIn, weightAt, cubeWeights, edgeIds, cubeIds}
 use Rattle.emit.proofs.StencilLaws.{tetra-long, tetra-most, empty, solid-long}
-use Rattle.emit.proofs.Written.{bounded, evenly}
+use Rattle.emit.proofs.Written.{bounded}
 
 -- the last edge, for any number that is none of the others
 module _ (e : ℕ) (p : e ≡ 0 → ⊥) (q : e ≡ 1 → ⊥) (r : e ≡ 2 → ⊥) where
@@ -183,9 +183,6 @@ module _ (n : ℕ) (c : Cube) where
   pub solid-edge-most : (j : ℕ) → j < 4 → length (edgeIds n c solidCube j) ≤ 4
   solid-edge-most j h = omega (arith, solid-edge-long j)
 
-  pub solid-cube-long : length (gather (edgeIds n c solidCube) (below 4)) ≡ 16
-  solid-cube-long = evenly (edgeIds n c solidCube) 4 solid-edge-long 4
-
 pub solid-is : (w : CubeWeights) → SmallCube w → solidly w ≡ true → w ≡ solidCube
 unfolding solidly
 solid-is w k t =
@@ -197,6 +194,22 @@ solid-is w k t =
     let p₅ : w .pp ≡ 5 = omega (arith, total, k) in
     let p₆ : w .mp ≡ 5 = omega (arith, total, k) in
     λ i. record { low = p₁ i; high = p₂ i; mm = p₃ i; pm = p₄ i; pp = p₅ i; mp = p₆ i }
+
+-- the rows of a cube, only counted: four numbers each
+pub cube-counted : (n : ℕ) (c : Cube) (w : CubeWeights) → 4 * cubeCount w ≡ length (gather (edgeIds n c w) (below 4))
+unfolding cubeCount edgeIds gather from
+cube-counted n c w =
+    omega (arith, edge-long 0, edge-long 1, edge-long 2, edge-long 3, appended (ids 0) (ids 1 ++ (ids 2 ++ (ids 3 ++ []))),
+    appended (ids 1) (ids 2 ++ (ids 3 ++ [])), appended (ids 2) (ids 3 ++ []), appended (ids 3) [])
+  where
+    ids : ℕ → List ℕ
+    ids e = tetraIds n (winds (quarterAt e)) (quarterOf c e) (quarterWeights w e)
+
+    edge-long : (e : ℕ) → length (ids e) ≡ 4 * rowCount (stencilOf (sum (quarterWeights w e)))
+    edge-long e = tetra-long n (winds (quarterAt e)) (quarterOf c e) (quarterWeights w e)
+
+    appended : (l m : List ℕ) → length (l ++ m) ≡ length l + length m
+    appended l m = length-append l m
 
 -- a cube without a plus gives nothing
 light : (l : Label) → weight l < 5 → weight l ≤ 1

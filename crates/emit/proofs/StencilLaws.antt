@@ -20,9 +20,9 @@ use Rattle.emit.specs.declared.Weights.{Weights}
 use Rattle.emit.specs.declared.Order.{Order}
 use Rattle.emit.specs.Corners.{axisAt, quarterAt, vertexAt, Known, KnownRow, cornerId, rowIds, turned, cornerOf, pointAt, cutAt, startBetween}
 use Rattle.emit.specs.Picks.{sum, picked, chosen, ordered, inversion, isEven}
-use Rattle.emit.specs.Stencils.{lines, turnedRow, stencilRows, KnownRows, none, more, allIds, rowCount, tetraIds, KnownTetra, InOrder, Room, solid}
+use Rattle.emit.specs.Stencils.{lines, turnedRow, stencilRows, KnownRows, none, more, allIds, rowCount, tetraIds, KnownTetra, InOrder, solid}
 use Rattle.emit.proofs.CornerLaws.{way-lt}
-use Rattle.emit.proofs.Written.{sets-append, sets-none}
+use Rattle.emit.proofs.Written.{sets-append}
 
 -- as many rows as the table has
 pub lines-count : {A B : Type 0} (point : ℕ → A) (cut : ℕ → ℕ → A) (row : Bool → A → A → A → A → B) (st : Stencil) (o : Order) (k : Bool)
@@ -183,16 +183,12 @@ empty [] e = refl
 empty (x ∷ l) e = absurd (omega arith)
 
 module _ (n : ℕ) (wound : Bool) (t : Tetra) (w : Weights) where
-  -- a tetrahedron without rows; one whose rows are only counted
+  -- a tetrahedron without rows
   pub none-for : (c : ℕ) → c ≡ rowCount (stencilOf (sum w)) → c ≡ 0 → (l : List ℕ) (i : ℕ)
       → (i ≡ i + length (tetraIds n wound t w)) × (l ≡ sets l i (tetraIds n wound t w))
   none-for c e z l i =
       let long = tetra-long n wound t w in
       (omega arith, rw (empty (tetraIds n wound t w) (omega arith)) refl)
-
-  pub counted-for : (c : ℕ) → c ≡ rowCount (stencilOf (sum w)) → (l : List ℕ) (i : ℕ) → length l ≡ 0
-      → (i + 4 * c ≡ i + length (tetraIds n wound t w)) × (l ≡ sets l i (tetraIds n wound t w))
-  counted-for c e l i z = let long = tetra-long n wound t w in (omega arith, sets-none l (tetraIds n wound t w) i z)
 
   module _ (o : Order) (even keep : Bool) (rows : List Row) (p : o ≡ ordered w) (q : even ≡ isEven w) (r : keep ≡ Bool·beq wound even)
       (s : rows ≡ stencilRows t o keep (stencilOf (sum w))) where
@@ -209,12 +205,12 @@ module _ (n : ℕ) (wound : Bool) (t : Tetra) (w : Weights) where
     pub known-for : KnownTetra n t → KnownRows n rows
     known-for h = rw same-rows (rows-known n t h (ordered w) (Bool·beq wound (isEven w)) (stencilOf (sum w)))
 
-    pub room-for : (l : List ℕ) (i : ℕ) → Room l i (length (tetraIds n wound t w)) → (length l ≡ 0 → ⊥) → i + 4 * length rows ≤ length l
+    pub room-for : (l : List ℕ) (i : ℕ) → i + length (tetraIds n wound t w) ≤ length l → i + 4 * length rows ≤ length l
     unfolding tetraIds
-    room-for l i g f =
+    room-for l i g =
         let long = ids-long n rows in
         let same = ap (λ (x : List Row). length (allIds n x)) same-rows in
-        omega (arith, g .fits (omega (arith, f)))
+        omega arith
 
 pub in-order : (n : ℕ) (t : Tetra) (w : Weights) (o : Order) → KnownTetra n t → o ≡ ordered w → InOrder t o
 in-order n t w o h e =

@@ -70,15 +70,6 @@ module _ (f : ℕ → List ℕ) where
       let v = rw (add-one k) at u in
       omega (arith, v, bounded c n h k (omega arith), h k (omega arith), mul-suc c k)
 
-  -- all parts are as long as c
-  pub evenly : (c : ℕ) → ((j : ℕ) → length (f j) ≡ c) → (k : ℕ) → length (gather f (below k)) ≡ c * k
-  unfolding gather from
-  evenly c h zero = omega arith
-  evenly c h (suc k) =
-      let u = longer k in
-      let v = rw (add-one k) at u in
-      omega (arith, v, evenly c h k, h k, mul-suc c k)
-
 -- a loop that writes f 0, f 1 .. one after the other from i on, after k turns: what the table holds, and the index after it
 pub record Written (f : ℕ → List ℕ) (l : List ℕ) (i k : ℕ) (now : List ℕ) (at : ℕ) : Type 0 where
   pub now-is : now ≡ sets l i (gather f (below k))
@@ -99,9 +90,12 @@ module _ {f : ℕ → List ℕ} {l : List ℕ} {i k : ℕ} {now : List ℕ} {at 
     at-is = omega (arith, g, ap length e, longer f k, w .at-is);
   }
 
+  pub fits-left : (n : ℕ) {vs : List ℕ} → vs ≡ f k → k < n → i + length (gather f (below n)) ≤ length l → at + length vs ≤ length now
+  fits-left n e h r = omega (arith, r, ap length e, kept-long, fits f k n h, w .at-is)
+
   pub room-left : (n : ℕ) {vs : List ℕ} → vs ≡ f k → k < n → Room l i (length (gather f (below n))) → Room now at (length vs)
   room-left n e h r =
-      record { fits = λ some. omega (arith, r .fits (omega (arith, kept-long)), ap length e, kept-long, fits f k n h, w .at-is) }
+      record { fits = λ some. fits-left n e h (r .fits (omega (arith, kept-long))) }
 
   -- how far the index has come, where no part is longer than c
   pub index-most : (c n : ℕ) → ((j : ℕ) → j < n → length (f j) ≤ c) → k ≤ n → at ≤ i + c * k

@@ -21,8 +21,9 @@ use Rattle.emit.specs.declared.Weights.{Weights}
 use Rattle.emit.specs.declared.Cube.{Cube}
 use Rattle.emit.specs.declared.CubeWeights.{CubeWeights}
 use Rattle.emit.specs.Corners.{quarterAt}
-use Rattle.emit.specs.Picks.{weight}
-use Rattle.emit.specs.Stencils.{tetraIds}
+use Rattle.stencil.specs.Stencil.{stencilOf}
+use Rattle.emit.specs.Picks.{weight, sum}
+use Rattle.emit.specs.Stencils.{rowCount, tetraIds}
 
 -- the label of a point after moving needs neither sizes nor cuts
 abbrev pub labelIn : List ℤ → List ℕ → ℕ → Label
@@ -93,6 +94,13 @@ solidCube = record { low = 5; high = 5; mm = 5; pm = 5; pp = 5; mp = 5 }
 
 unfoldable pub edgeIds : ℕ → Cube → CubeWeights → ℕ → List ℕ
 edgeIds n c w e = tetraIds n (winds (quarterAt e)) (quarterOf c e) (quarterWeights w e)
+
+-- how many rows they have together
+unfoldable pub cubeCount : CubeWeights → ℕ
+cubeCount w = count 0 + count 1 + count 2 + count 3
+  where
+    count : ℕ → ℕ
+    count e = rowCount (stencilOf (sum (quarterWeights w e)))
 
 unfoldable pub cubeIds : ℕ → List ℤ → List ℕ → Cube → List ℕ
 cubeIds n samples state c = gather (edgeIds n c (cubeWeights samples state c)) (below 4)

@@ -4,6 +4,7 @@ use crate::Cube;
 use crate::CubeWeights;
 use crate::Tetra;
 use crate::Weights;
+use crate::stencils;
 use crate::writing;
 use places::Place;
 use places::volume;
@@ -18,7 +19,7 @@ ghost use Rattle.places.specs.Places.{placeAt, InBox, placeBox};
 ghost use Rattle.emit.specs.Corners.{most, quarterAt};
 ghost use Rattle.emit.specs.Picks.{weight};
 ghost use Rattle.emit.specs.Stencils.{Room, rowsMost};
-ghost use Rattle.emit.specs.Cubes.{weightAt, windsWith, cubeWeights, quarterOf, quarterWeights, KnownCube, SmallCube, bare, solidly, solidCube, edgeIds, cubeIds};
+ghost use Rattle.emit.specs.Cubes.{weightAt, windsWith, cubeWeights, quarterOf, quarterWeights, KnownCube, SmallCube, bare, solidly, solidCube, cubeCount, edgeIds, cubeIds};
 
 // The weight of a sample's sign.
 fn weight_of(x: i16) -> usize
@@ -230,13 +231,10 @@ fn write_solid_cube(rows: &mut [u32], at: usize, n: usize, c: Cube) -> usize
     requires { ⌜ n ≤ most ⌝ }
     requires { ⌜ KnownCube n c ⌝ }
     requires { ⌜ at + 48 ≤ rowsMost ⌝ }
-    requires { ⌜ Room (now rows) at (length (gather (edgeIds n c solidCube) (below 4))) ⌝ }
+    requires { ⌜ at + length (gather (edgeIds n c solidCube) (below 4)) ≤ length (now rows) ⌝ }
     ensures { λ r. ⌜ r ≡ at + length (gather (edgeIds n c solidCube) (below 4)) ⌝ }
     ensures { λ r. ⌜ now (rows .exit) ≡ sets (now (rows .entry)) at (gather (edgeIds n c solidCube) (below 4)) ⌝ }
 {
-    if rows.len() == 0 {
-        return at + 16;
-    }
     let mut to = at;
     for e in 0..4 {
         let wound = winding(e);
@@ -245,6 +243,20 @@ fn write_solid_cube(rows: &mut [u32], at: usize, n: usize, c: Cube) -> usize
         to += 4;
     }
     to
+}
+
+// How many rows the four tetrahedra of a cube have, by their patterns.
+fn count_cube(w: CubeWeights) -> usize
+    requires { ⌜ SmallCube w ⌝ }
+    ensures { λ r. ⌜ r ≡ cubeCount w ⌝ }
+    ensures { λ r. ⌜ r ≤ 12 ⌝ }
+{
+    let centres = w.low + w.high;
+    let first = stencils::row_count(w.mm + (w.pm + centres));
+    let second = stencils::row_count(w.pm + (w.pp + centres));
+    let third = stencils::row_count(w.mp + (w.pp + centres));
+    let fourth = stencils::row_count(w.mm + (w.mp + centres));
+    first + second + third + fourth
 }
 
 // The rows of the four tetrahedra between a cube and the next one, from an index on; the index after
@@ -268,6 +280,9 @@ pub fn write_cube(
     let w = weigh_cube(samples, state, c);
     if is_bare(w) {
         return at;
+    }
+    if rows.len() == 0 {
+        return at + 4 * count_cube(w);
     }
     if is_solid(w) {
         return write_solid_cube(rows, at, n, c);

@@ -1,4 +1,4 @@
-// The rows of one lattice tetrahedron, written or only counted.
+// The rows of one lattice tetrahedron, written as ids.
 use crate::Order;
 use crate::Rows;
 use crate::Tetra;
@@ -12,7 +12,7 @@ ghost use Prim.Native.Nat.{_+_, _*_, _<_, _≤_};
 ghost use lib.ListN.{length};
 ghost use lib.Seq.{sets};
 ghost use Rattle.emit.specs.Corners.{most};
-ghost use Rattle.emit.specs.Stencils.{listed, KnownRows, allIds, KnownTetra, tetraIds, Small, Room, rowsMost, solid};
+ghost use Rattle.emit.specs.Stencils.{listed, KnownRows, allIds, KnownTetra, tetraIds, Small, rowsMost, solid};
 
 fn write(rows: &mut [u32], at: usize, n: usize, r: Rows)
     requires { ⌜ n ≤ most ⌝ }
@@ -44,8 +44,8 @@ fn agrees(a: bool, b: bool) -> bool
     !b
 }
 
-// From an index on: into an empty table nothing is written, and the rows are only counted. `wound`
-// says that the four corners, ascending, wind positively. Answers the index after the rows.
+// The rows of a tetrahedron, from an index on. `wound` says that the four corners, ascending, wind
+// positively. Answers the index after the rows.
 pub fn write_tetra(
     rows: &mut [u32],
     at: usize,
@@ -58,7 +58,7 @@ pub fn write_tetra(
     requires { ⌜ KnownTetra n t ⌝ }
     requires { ⌜ Small w ⌝ }
     requires { ⌜ at + 12 ≤ rowsMost ⌝ }
-    requires { ⌜ Room (now rows) at (length (tetraIds n wound t w)) ⌝ }
+    requires { ⌜ at + length (tetraIds n wound t w) ≤ length (now rows) ⌝ }
     ensures { λ r. ⌜ r ≡ at + length (tetraIds n wound t w) ⌝ }
     ensures { λ r. ⌜ now (rows .exit) ≡ sets (now (rows .entry)) at (tetraIds n wound t w) ⌝ }
 {
@@ -66,9 +66,6 @@ pub fn write_tetra(
     let count = stencils::row_count(pattern);
     if count == 0 {
         return at;
-    }
-    if rows.len() == 0 {
-        return at + 4 * count;
     }
     let o = picks::order(w);
     let even = picks::is_even(w);

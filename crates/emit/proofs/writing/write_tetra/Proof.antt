@@ -1,5 +1,5 @@
--- Nothing without a plus; counted into an empty table; else the rows of the pattern. Assumes nothing.
-use Rattle.emit.proofs.StencilLaws.{none-for, counted-for, in-order, known-for, room-for, written-for}
+-- Nothing without a plus; else the rows of the pattern. Assumes nothing.
+use Rattle.emit.proofs.StencilLaws.{none-for, in-order, known-for, room-for, written-for}
 use Rattle.emit.specs.Picks.{sum}
 use native.Mathlib.Omega.{arith}
 use borrow.Author.Needs.{needs}
@@ -20,17 +20,9 @@ row-count-requires c κs = search needs
 
 returns : tie.Need-returns
 unfolding sum
-returns c = let a = c .before .before .before .before .before .before in none-for (a .args .n) (a .args .wound) (a .args .t) (a .args .w) _ (c .before .row-count .ensures .0) (c .if1 .taken) _ _
-
-mul-result : tie.Need-mul-result
-mul-result c = omega (arith, c .before .before .row-count .ensures .1)
-
-add-result : tie.Need-add-result
-add-result c = omega (arith, c .before .before .row-count .ensures .1, c .before .before .before .before .before .before .before .pre .1 .1 .1 .0)
-
-returns-2 : tie.Need-returns-2
-unfolding sum
-returns-2 c = let a = c .before .before .before .before .before .before .before in counted-for (a .args .n) (a .args .wound) (a .args .t) (a .args .w) _ (c .before .before .row-count .ensures .0) _ _ (c .if2 .taken)
+returns c =
+    let a = c .before .before .before .before .before .before in
+    none-for (a .args .n) (a .args .wound) (a .args .t) (a .args .w) _ (c .before .row-count .ensures .0) (c .if1 .taken) _ _
 
 order-requires : tie.Need-order-requires
 order-requires c κs = search needs
@@ -42,24 +34,59 @@ agrees-requires : tie.Need-agrees-requires
 agrees-requires c κs = search needs
 
 rows-for-requires : tie.Need-rows-for-requires
-rows-for-requires c κs = let a = c .before .before .before .before .before .before .before .before .before .before in in-order (a .args .n) (a .args .t) (a .args .w) _ (a .pre .1 .0) (c .before .before .order .ensures)
+rows-for-requires c κs =
+    let o = c .before .before in
+    let a = o .before .before .before .before .before .before .before in
+    in-order (a .args .n) (a .args .t) (a .args .w) _ (a .pre .1 .0) (o .order .ensures)
 
 write-requires : tie.Need-write-requires
 unfolding sum
-write-requires c κs = let a = c .before .before .before .before .before .before .before .before .before .before .before .before in (a .pre .0, (known-for (a .args .n) (a .args .wound) (a .args .t) (a .args .w) _ _ _ _ (c .before .before .before .before .order .ensures) (c .before .before .before .is-even .ensures) (c .before .before .agrees .ensures) (c .before .rows-for .ensures) (a .pre .1 .0), room-for (a .args .n) (a .args .wound) (a .args .t) (a .args .w) _ _ _ _ (c .before .before .before .before .order .ensures) (c .before .before .before .is-even .ensures) (c .before .before .agrees .ensures) (c .before .rows-for .ensures) _ _ (a .pre .1 .1 .1 .1) (c .before .before .before .before .before .if2 .left)))
+write-requires c κs =
+    let k = c .before .before in
+    let o = k .before .before in
+    let a = o .before .before .before .before .before .before .before in
+    (a .pre .0,
+    (known-for (a .args .n) (a .args .wound) (a .args .t) (a .args .w) _ _ _ _ (o .order .ensures) (k .before .is-even .ensures) (k .agrees .ensures)
+    (c .before .rows-for .ensures) (a .pre .1 .0),
+    room-for (a .args .n) (a .args .wound) (a .args .t) (a .args .w) _ _ _ _ (o .order .ensures) (k .before .is-even .ensures) (k .agrees .ensures)
+    (c .before .rows-for .ensures) (a .args .rows .now) (a .args .at) (a .pre .1 .1 .1 .1)))
 
-mul-result-2 : tie.Need-mul-result-2
-mul-result-2 c = omega (arith, c .before .before .before .before .before .before .before .before .before .before .row-count .ensures .1)
+mul-result : tie.Need-mul-result
+mul-result c = omega (arith, c .before .before .before .before .before .before .before .before .before .row-count .ensures .1)
 
-add-result-2 : tie.Need-add-result-2
-add-result-2 c = omega (arith, c .before .before .before .before .before .before .before .before .before .before .row-count .ensures .1, c .before .before .before .before .before .before .before .before .before .before .before .before .before .before .before .pre .1 .1 .1 .0)
+add-result : tie.Need-add-result
+add-result c =
+    let r = c .before .before .before .before .before .before .before .before .before in
+    omega (arith, r .row-count .ensures .1, r .before .before .before .before .before .pre .1 .1 .1 .0)
 
 same-length : tie.Need-same-length
 same-length c = search needs
 
-returns-3 : tie.Need-returns-3
+returns-2 : tie.Need-returns-2
 unfolding sum
-returns-3 c = let a = c .before .before .before .before .before .before .before .before .before .before .before .before .before .before .before in written-for (a .args .n) (a .args .wound) (a .args .t) (a .args .w) _ _ _ _ (c .before .before .before .before .before .before .before .order .ensures) (c .before .before .before .before .before .before .is-even .ensures) (c .before .before .before .before .before .agrees .ensures) (c .before .before .before .before .rows-for .ensures) _ (c .before .before .before .before .before .before .before .before .before .before .row-count .ensures .0) _ _ _ (c .before .before .write .ensures)
+returns-2 c =
+    let r = c .before .before .before .before in
+    let o = r .before .before .before in
+    let t = o .before .before in
+    let a = t .before .before .before .before .before in
+    written-for (a .args .n) (a .args .wound) (a .args .t) (a .args .w) _ _ _ _ (o .order .ensures) (r .before .before .is-even .ensures)
+    (r .before .agrees .ensures) (r .rows-for .ensures) _ (t .row-count .ensures .0) _ _ _ (c .before .before .write .ensures)
 
 pub write-tetra-spec : {M : Type 1} → statement M
-write-tetra-spec = tie.close (tie.spec add-pattern add-pattern-2 add-pattern-3 row-count-requires returns mul-result add-result returns-2 order-requires is-even-requires agrees-requires rows-for-requires write-requires mul-result-2 add-result-2 same-length returns-3)
+write-tetra-spec =
+    tie.close
+    (tie.spec
+    add-pattern
+    add-pattern-2
+    add-pattern-3
+    row-count-requires
+    returns
+    order-requires
+    is-even-requires
+    agrees-requires
+    rows-for-requires
+    write-requires
+    mul-result
+    add-result
+    same-length
+    returns-2)
