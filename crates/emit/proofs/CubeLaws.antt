@@ -2,16 +2,19 @@
 use Prim.Native.Nat.{ℕ, zero, suc, _+_, _*_, _≤_, _<_}
 use native.Mathlib.Omega.{arith}
 use mathlib.Core.Path.{_≡_, refl, sym, ap, subst, _∙_}
-use mathlib.Core.Bool.{Bool, true, false, _&&_, false≢true}
+use mathlib.Core.Bool.{Bool, true, false}
 use mathlib.Core.List.{List, [], _∷_, _++_}
-use borrow.Author.Tests.{ltb-true, lt-ltb, le-ltb, le-leb, eqb-true}
-use lib.Dec.{ltb}
+use borrow.Author.Tests.{le-leb, eq-eqb, eqb-true}
+use lib.Dec.{eqb}
 use lib.Seq.{sets}
-use lib.IntN.{ℤ}
-use lib.ListN.{length, length-append}
+use lib.IntN.{ℤ, pos}
+use lib.ListN.{length, getD, length-append}
+use Rattle.basics.specs.Choice.{if_then_else_}
 use Rattle.basics.specs.Lists.{gather, from, below}
 use Rattle.moving.specs.declared.Label.{Label}
 use Rattle.moving.specs.declared.Label.the-variants.{Minus, Zero, Plus}
+use Rattle.moving.specs.Label.{labelOf, isPlus}
+use Rattle.moving.specs.Moving.{labelAfter}
 use Rattle.stencil.specs.Stencil.{stencilOf}
 use Rattle.stencil.specs.Tetrahedron.{q3}
 use Rattle.stencil.proofs.Sign.{winds}
@@ -22,7 +25,7 @@ use Rattle.emit.specs.declared.CubeWeights.{CubeWeights}
 use Rattle.emit.specs.Corners.{most, quarterAt}
 use Rattle.emit.specs.Picks.{weight, sum}
 use Rattle.emit.specs.Stencils.{KnownTetra, Small, Room, rowCount, tetraIds, solid}
-use Rattle.emit.specs.Cubes.{quarterOf, quarterWeights, KnownCube, SmallCube, bare, solidly, solidCube, cubeCount, labelIn, weightAt, cubeWeights, edgeIds, cubeIds}
+use Rattle.emit.specs.Cubes.{quarterOf, quarterWeights, KnownCube, SmallCube, counted, total, plusAt, plusCount, unmoved, solidCube, cubeCount, weightAt, cubeWeights, edgeIds, cubeIds}
 use Rattle.emit.proofs.StencilLaws.{tetra-long, tetra-most, empty, solid-long}
 use Rattle.emit.proofs.Written.{bounded}
 
@@ -125,44 +128,21 @@ pub cube-most : (n : ℕ) (samples : List ℤ) (state : List ℕ) (c : Cube) →
 unfolding cubeIds
 cube-most n samples state c = bounded (edgeIds n c (cubeWeights samples state c)) 12 4 (λ j h. edge-most n c (cubeWeights samples state c) j) 4 (omega arith)
 
--- the six tests of a cube without a plus
-pub record Bare (w : CubeWeights) : Type 0 where
-  pub low-bare : w .low < 5
-  pub high-bare : w .high < 5
-  pub mm-bare : w .mm < 5
-  pub pm-bare : w .pm < 5
-  pub pp-bare : w .pp < 5
-  pub mp-bare : w .mp < 5
+-- the rows of a cube, only counted: four numbers each
+pub cube-counted : (n : ℕ) (c : Cube) (w : CubeWeights) → 4 * cubeCount w ≡ length (gather (edgeIds n c w) (below 4))
+unfolding cubeCount edgeIds gather from
+cube-counted n c w =
+    omega (arith, edge-long 0, edge-long 1, edge-long 2, edge-long 3, appended (ids 0) (ids 1 ++ (ids 2 ++ (ids 3 ++ []))),
+    appended (ids 1) (ids 2 ++ (ids 3 ++ [])), appended (ids 2) (ids 3 ++ []), appended (ids 3) [])
+  where
+    ids : ℕ → List ℕ
+    ids e = tetraIds n (winds (quarterAt e)) (quarterOf c e) (quarterWeights w e)
 
-and-first : (a b : Bool) → (a && b) ≡ true → a ≡ true
-and-first true b e = refl
-and-first false b e = absurd (false≢true e)
+    edge-long : (e : ℕ) → length (ids e) ≡ 4 * rowCount (stencilOf (sum (quarterWeights w e)))
+    edge-long e = tetra-long n (winds (quarterAt e)) (quarterOf c e) (quarterWeights w e)
 
-and-rest : (a b : Bool) → (a && b) ≡ true → b ≡ true
-and-rest true b e = e
-and-rest false b e = absurd (false≢true e)
-
-pub bare-all : (w : CubeWeights) → bare w ≡ true → Bare w
-unfolding bare
-bare-all w e =
-    let e₁ = and-rest (ltb (w .low) 5) _ e in
-    let e₂ = and-rest (ltb (w .high) 5) _ e₁ in
-    let e₃ = and-rest (ltb (w .mm) 5) _ e₂ in
-    let e₄ = and-rest (ltb (w .pm) 5) _ e₃ in
-    record {
-      low-bare = ltb-true _ _ (and-first (ltb (w .low) 5) _ e);
-      high-bare = ltb-true _ _ (and-first (ltb (w .high) 5) _ e₁);
-      mm-bare = ltb-true _ _ (and-first (ltb (w .mm) 5) _ e₂);
-      pm-bare = ltb-true _ _ (and-first (ltb (w .pm) 5) _ e₃);
-      pp-bare = ltb-true _ _ (and-first (ltb (w .pp) 5) _ e₄);
-      mp-bare = ltb-true _ _ (and-rest (ltb (w .pp) 5) _ e₄);
-    }
-
-pub all-bare : (w : CubeWeights) → Bare w → bare w ≡ true
-unfolding bare
-all-bare w b =
-    simp (lt-ltb _ _ (b .low-bare), lt-ltb _ _ (b .high-bare), lt-ltb _ _ (b .mm-bare), lt-ltb _ _ (b .pm-bare), lt-ltb _ _ (b .pp-bare),
-    lt-ltb _ _ (b .mp-bare))
+    appended : (l m : List ℕ) → length (l ++ m) ≡ length l + length m
+    appended l m = length-append l m
 
 -- a cube of six plus points
 module _ (n : ℕ) (c : Cube) where
@@ -183,68 +163,113 @@ module _ (n : ℕ) (c : Cube) where
   pub solid-edge-most : (j : ℕ) → j < 4 → length (edgeIds n c solidCube j) ≤ 4
   solid-edge-most j h = omega (arith, solid-edge-long j)
 
-pub solid-is : (w : CubeWeights) → SmallCube w → solidly w ≡ true → w ≡ solidCube
-unfolding solidly
-solid-is w k t =
-    let total = eqb-true (w .low + w .high + w .mm + (w .pm + w .pp + w .mp)) 30 t in
-    let p₁ : w .low ≡ 5 = omega (arith, total, k) in
-    let p₂ : w .high ≡ 5 = omega (arith, total, k) in
-    let p₃ : w .mm ≡ 5 = omega (arith, total, k) in
-    let p₄ : w .pm ≡ 5 = omega (arith, total, k) in
-    let p₅ : w .pp ≡ 5 = omega (arith, total, k) in
-    let p₆ : w .mp ≡ 5 = omega (arith, total, k) in
-    λ i. record { low = p₁ i; high = p₂ i; mm = p₃ i; pm = p₄ i; pp = p₅ i; mp = p₆ i }
+  pub solid-cube-long : length (gather (edgeIds n c solidCube) (below 4)) ≡ 16
+  unfolding cubeCount rowCount stencilOf sum
+  solid-cube-long = sym (cube-counted n c solidCube)
 
--- the rows of a cube, only counted: four numbers each
-pub cube-counted : (n : ℕ) (c : Cube) (w : CubeWeights) → 4 * cubeCount w ≡ length (gather (edgeIds n c w) (below 4))
-unfolding cubeCount edgeIds gather from
-cube-counted n c w =
-    omega (arith, edge-long 0, edge-long 1, edge-long 2, edge-long 3, appended (ids 0) (ids 1 ++ (ids 2 ++ (ids 3 ++ []))),
-    appended (ids 1) (ids 2 ++ (ids 3 ++ [])), appended (ids 2) (ids 3 ++ []), appended (ids 3) [])
-  where
-    ids : ℕ → List ℕ
-    ids e = tetraIds n (winds (quarterAt e)) (quarterOf c e) (quarterWeights w e)
+-- the weight of a point from its sample and its state byte
+plain : (l : Label) (b : Bool) → counted (isPlus l) ≡ 0 → weight (if b then l else Zero) ≤ 1
+unfolding weight isPlus
+plain Minus true e = omega arith
+plain Zero true e = omega arith
+plain Plus true e = absurd (omega arith)
+plain l false e = omega arith
 
-    edge-long : (e : ℕ) → length (ids e) ≡ 4 * rowCount (stencilOf (sum (quarterWeights w e)))
-    edge-long e = tetra-long n (winds (quarterAt e)) (quarterOf c e) (quarterWeights w e)
+heavy : (l : Label) → counted (isPlus l) ≡ 1 → weight l ≡ 5
+unfolding weight isPlus
+heavy Minus e = absurd (omega arith)
+heavy Zero e = absurd (omega arith)
+heavy Plus e = refl
 
-    appended : (l m : List ℕ) → length (l ++ m) ≡ length l + length m
-    appended l m = length-append l m
-
--- a cube without a plus gives nothing
-light : (l : Label) → weight l < 5 → weight l ≤ 1
-unfolding weight
-light Minus h = omega arith
-light Zero h = omega arith
-light Plus h = absurd (omega arith)
+at-most-one : (b : Bool) → counted b ≤ 1
+at-most-one true = omega arith
+at-most-one false = omega arith
 
 no-row : (m : ℕ) → m ≤ 4 → rowCount (stencilOf m) ≡ 0
 unfolding stencilOf rowCount
 no-row m h = simp (le-leb _ _ h)
 
-module _ (n : ℕ) (samples : List ℤ) (state : List ℕ) (c : Cube) where
-  light-at : (p : ℕ) → weightAt samples state p < 5 → weightAt samples state p ≤ 1
-  unfolding weightAt
-  light-at p h = light (labelIn samples state p) h
+-- the same number at all six points
+record Six (f : ℕ → ℕ) (k : ℕ) (c : Cube) : Type 0 where
+  low-is : f (c .low) ≡ k
+  high-is : f (c .high) ≡ k
+  mm-is : f (c .mm) ≡ k
+  pm-is : f (c .pm) ≡ k
+  pp-is : f (c .pp) ≡ k
+  mp-is : f (c .mp) ≡ k
 
-  bare-sum : Bare (cubeWeights samples state c) → (e : ℕ) → sum (quarterWeights (cubeWeights samples state c) e) ≤ 4
+module _ (f : ℕ → ℕ) (c : Cube) where
+  all-zero : total f c ≡ 0 → Six f 0 c
+  all-zero e =
+      record { low-is = omega arith; high-is = omega arith; mm-is = omega arith; pm-is = omega arith; pp-is = omega arith; mp-is = omega arith }
+
+  all-one : ((p : ℕ) → f p ≤ 1) → total f c ≡ 6 → Six f 1 c
+  all-one h e =
+      let a = h (c .low) in
+      let b = h (c .high) in
+      let d = h (c .mm) in
+      let g = h (c .pm) in
+      let i = h (c .pp) in
+      let j = h (c .mp) in
+      record { low-is = omega arith; high-is = omega arith; mm-is = omega arith; pm-is = omega arith; pp-is = omega arith; mp-is = omega arith }
+
+module _ (samples : List ℤ) (state : List ℕ) where
+  plain-at : (p : ℕ) → plusAt samples p ≡ 0 → weightAt samples state p ≤ 1
+  unfolding weightAt labelAfter plusAt
+  plain-at p e = plain (labelOf (getD samples p (pos 0))) (eqb (getD state p 0) 0) e
+
+  heavy-at : (p : ℕ) → plusAt samples p ≡ 1 → getD state p 0 ≡ 0 → weightAt samples state p ≡ 5
+  unfolding weightAt labelAfter plusAt
+  heavy-at p e z = rw (eq-eqb (getD state p 0) 0 z) (heavy (labelOf (getD samples p (pos 0))) e)
+
+  plus-most : (p : ℕ) → plusAt samples p ≤ 1
+  unfolding plusAt
+  plus-most p = at-most-one (isPlus (labelOf (getD samples p (pos 0))))
+
+  -- six plus points that have not moved
+  pub solid-is : (c : Cube) → plusCount samples c ≡ 6 → unmoved state c ≡ true → cubeWeights samples state c ≡ solidCube
+  unfolding plusCount unmoved cubeWeights
+  solid-is c e u =
+      let one = all-one (plusAt samples) c plus-most e in
+      let still = all-zero (λ p. getD state p 0) c (eqb-true (total (λ p. getD state p 0) c) 0 u) in
+      λ i. record {
+        low = heavy-at (c .low) (one .low-is) (still .low-is) i;
+        high = heavy-at (c .high) (one .high-is) (still .high-is) i;
+        mm = heavy-at (c .mm) (one .mm-is) (still .mm-is) i;
+        pm = heavy-at (c .pm) (one .pm-is) (still .pm-is) i;
+        pp = heavy-at (c .pp) (one .pp-is) (still .pp-is) i;
+        mp = heavy-at (c .mp) (one .mp-is) (still .mp-is) i;
+      }
+
+-- a cube without a plus gives nothing
+module _ (n : ℕ) (samples : List ℤ) (state : List ℕ) (c : Cube) (none : plusCount samples c ≡ 0) where
+  bare : Six (plusAt samples) 0 c
+  unfolding plusCount
+  bare = all-zero (plusAt samples) c none
+
+  light : (p : ℕ) → plusAt samples p ≡ 0 → weightAt samples state p ≤ 1
+  light = plain-at samples state
+
+  bare-sum : (e : ℕ) → sum (quarterWeights (cubeWeights samples state c) e) ≤ 4
   unfolding sum cubeWeights
-  bare-sum b zero = omega (arith, light-at (c .mm) (b .mm-bare), light-at (c .pm) (b .pm-bare), light-at (c .low) (b .low-bare), light-at (c .high) (b .high-bare))
-  bare-sum b (suc zero) = omega (arith, light-at (c .pm) (b .pm-bare), light-at (c .pp) (b .pp-bare), light-at (c .low) (b .low-bare), light-at (c .high) (b .high-bare))
-  bare-sum b (suc (suc zero)) = omega (arith, light-at (c .mp) (b .mp-bare), light-at (c .pp) (b .pp-bare), light-at (c .low) (b .low-bare), light-at (c .high) (b .high-bare))
-  bare-sum b (suc (suc (suc e))) = omega (arith, light-at (c .mm) (b .mm-bare), light-at (c .mp) (b .mp-bare), light-at (c .low) (b .low-bare), light-at (c .high) (b .high-bare))
+  bare-sum zero = omega (arith, light (c .mm) (bare .mm-is), light (c .pm) (bare .pm-is), light (c .low) (bare .low-is), light (c .high) (bare .high-is))
+  bare-sum (suc zero) =
+      omega (arith, light (c .pm) (bare .pm-is), light (c .pp) (bare .pp-is), light (c .low) (bare .low-is), light (c .high) (bare .high-is))
+  bare-sum (suc (suc zero)) =
+      omega (arith, light (c .mp) (bare .mp-is), light (c .pp) (bare .pp-is), light (c .low) (bare .low-is), light (c .high) (bare .high-is))
+  bare-sum (suc (suc (suc e))) =
+      omega (arith, light (c .mm) (bare .mm-is), light (c .mp) (bare .mp-is), light (c .low) (bare .low-is), light (c .high) (bare .high-is))
 
-  bare-edge : Bare (cubeWeights samples state c) → (e : ℕ) → edgeIds n c (cubeWeights samples state c) e ≡ []
+  bare-edge : (e : ℕ) → edgeIds n c (cubeWeights samples state c) e ≡ []
   unfolding edgeIds
-  bare-edge b e =
+  bare-edge e =
       empty _ (tetra-long n (winds (quarterAt e)) (quarterOf c e) (quarterWeights (cubeWeights samples state c) e)
-      ∙ ap (λ (m : ℕ). 4 * m) (no-row _ (bare-sum b e)))
+      ∙ ap (λ (m : ℕ). 4 * m) (no-row _ (bare-sum e)))
 
-  pub bare-cube : Bare (cubeWeights samples state c) → cubeIds n samples state c ≡ []
+  pub bare-cube : cubeIds n samples state c ≡ []
   unfolding cubeIds gather from
-  bare-cube b = rw (bare-edge b 0, bare-edge b 1, bare-edge b 2, bare-edge b 3) refl
+  bare-cube = rw (bare-edge 0, bare-edge 1, bare-edge 2, bare-edge 3) refl
 
   -- so nothing is written, and the index stays
-  pub bare-written : (w : CubeWeights) → w ≡ cubeWeights samples state c → bare w ≡ true → (l : List ℕ) (i : ℕ)
-      → (i ≡ i + length (cubeIds n samples state c)) × (l ≡ sets l i (cubeIds n samples state c))
-  bare-written w e b l i = rw (bare-cube (bare-all _ (sym (ap bare e) ∙ b))) (omega arith, refl)
+  pub bare-written : (l : List ℕ) (i : ℕ) → (i ≡ i + length (cubeIds n samples state c)) × (l ≡ sets l i (cubeIds n samples state c))
+  bare-written l i = rw bare-cube (omega arith, refl)

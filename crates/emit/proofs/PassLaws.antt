@@ -3,7 +3,6 @@ use Prim.Native.Nat.{ℕ, zero, suc, _+_, _*_, _-_, _≤_, _<_}
 use native.Mathlib.Nat.{mul-le-mul}
 use native.Mathlib.Omega.{arith}
 use mathlib.Core.Path.{_≡_, refl, sym, ap, _∙_}
-use mathlib.Core.Bool.{true}
 use mathlib.Core.List.{List, []}
 use lib.IntN.{ℤ}
 use lib.ListN.{length}
@@ -17,9 +16,9 @@ use Rattle.emit.specs.declared.Cube.{Cube}
 use Rattle.emit.specs.declared.Pass.{Pass}
 use Rattle.emit.specs.Corners.{most, axisAt}
 use Rattle.emit.specs.Stencils.{Room, rowsMost}
-use Rattle.emit.specs.Cubes.{KnownCube, bare, cubeWeights, cubeIds}
+use Rattle.emit.specs.Cubes.{KnownCube, plusCount, cubeIds}
 use Rattle.emit.specs.Passes.{movedCube, KnownRun, placedIds, runIds, InPass, firstCorner, firstCentre, lineIds, layerIds, passIds, lineMost, layerMost, passMost, Tables, stepBy, passOf, blockIds}
-use Rattle.emit.proofs.CubeLaws.{known-within, cube-most, bare-all, bare-cube}
+use Rattle.emit.proofs.CubeLaws.{known-within, cube-most, bare-cube}
 use Rattle.emit.proofs.StencilLaws.{empty}
 use Rattle.emit.proofs.Written.{bounded, Written, index-most, room-left}
 use Rattle.emit.proofs.Numbers.{pass-in, sizes-are}
@@ -56,13 +55,13 @@ module _ (n : ℕ) (samples : List ℤ) (state : List ℕ) (step : Cube) (corner
   run-is count = refl
 
   -- cubes without a plus, side by side, give nothing
-  pub bare-run-written : (count : ℕ) → ((x : ℕ) → x < count → bare (cubeWeights samples state (movedCube step (corner + x) (centre + x))) ≡ true)
+  pub bare-run-written : (count : ℕ) → ((x : ℕ) → x < count → plusCount samples (movedCube step (corner + x) (centre + x)) ≡ 0)
       → (l : List ℕ) (i : ℕ) → (i ≡ i + length (runIds n samples state step corner centre count)) × (l ≡ sets l i (runIds n samples state step corner centre count))
   unfolding runIds placedIds
   bare-run-written count b l i = rw nothing (omega arith, refl)
     where
       none-placed : (x : ℕ) → x < count → length (placedIds n samples state step corner centre x) ≤ 0
-      none-placed x h = rw (bare-cube n samples state (movedCube step (corner + x) (centre + x)) (bare-all _ (b x h))) (omega arith)
+      none-placed x h = rw (bare-cube n samples state (movedCube step (corner + x) (centre + x)) (b x h)) (omega arith)
 
       nothing : runIds n samples state step corner centre count ≡ []
       nothing = empty _ (omega (arith, bounded (placedIds n samples state step corner centre) 0 count none-placed count (omega arith)))

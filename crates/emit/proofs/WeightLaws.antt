@@ -12,10 +12,11 @@ use mir.Val.{ofZ, toZ, SFits}
 use mir.ValLaws.{toZ-ofZ}
 use borrow.Author.Tests.{ltb-true, ltb-false, eq-eqb, ne-eqb}
 use Rattle.basics.specs.Choice.{if_then_else_}
-use Rattle.moving.specs.Label.{labelOf}
+use Rattle.moving.specs.Label.{labelOf, isPlus}
 use Rattle.moving.specs.Moving.{labelAfter}
+use Rattle.audit.proofs.Labels.{plus-test}
 use Rattle.emit.specs.Picks.{weight}
-use Rattle.emit.specs.Cubes.{weightAt}
+use Rattle.emit.specs.Cubes.{weightAt, plusAt}
 
 plus-of : (x : ℤ) → ltZ (pos 0) x ≡ true → weight (labelOf x) ≡ 5
 unfolding weight labelOf
@@ -53,3 +54,16 @@ module _ (samples : List ℤ) (state : List ℕ) (p : ℕ) where
   unfolding weightAt labelAfter
   weight-still h m e =
       e ∙ ap (λ (z : ℤ). weight (labelOf z)) (toZ-ofZ w16 (getD samples p (pos 0)) (record { sfits = m })) ∙ simp (eq-eqb (getD state p 0) 0 h)
+
+-- 1 for a sample above zero, 0 for any other
+module _ (samples : List ℤ) (p : ℕ) (m : mag (getD samples p (pos 0)) < 2 ^ 15) where
+  tested : ltZ (pos 0) (toZ w16 (ofZ w16 (getD samples p (pos 0)))) ≡ isPlus (labelOf (getD samples p (pos 0)))
+  tested = plus-test (getD samples p (pos 0)) (record { sfits = m })
+
+  pub plus-one : ltZ (pos 0) (toZ w16 (ofZ w16 (getD samples p (pos 0)))) ≡ true → 1 ≡ plusAt samples p
+  unfolding plusAt
+  plus-one t = simp (sym tested ∙ t)
+
+  pub plus-none : ltZ (pos 0) (toZ w16 (ofZ w16 (getD samples p (pos 0)))) ≡ false → 0 ≡ plusAt samples p
+  unfolding plusAt
+  plus-none t = simp (sym tested ∙ t)

@@ -1,11 +1,13 @@
 -- The tetrahedra between a cube and the next one along an axis, and what is written for them.
 use Prim.Native.Nat.{ℕ, zero, suc, _+_, _≤_, _<_}
+use mathlib.Core.Path.{_≡_}
 use mathlib.Core.List.{List, []}
-use mathlib.Core.Bool.{Bool, _&&_}
+use mathlib.Core.Bool.{Bool}
 use lib.IntN.{ℤ, pos}
-use lib.Dec.{ltb, eqb}
+use lib.Dec.{eqb}
 use lib.ListN.{getD}
 use lib.Signed.{ltZ}
+use Rattle.basics.specs.Choice.{if_then_else_}
 use Rattle.basics.specs.Lists.{gather, below}
 use Rattle.lattice.specs.declared.Sizes.{Sizes}
 use Rattle.lattice.specs.Axis.{xyz}
@@ -13,7 +15,7 @@ use Rattle.geometry.specs.Place.{Place}
 use Rattle.geometry.specs.Volume.{sixVolume}
 use Rattle.moving.specs.Block.{blockOf}
 use Rattle.moving.specs.declared.Label.{Label}
-use Rattle.moving.specs.Label.{labelOf}
+use Rattle.moving.specs.Label.{labelOf, isPlus}
 use Rattle.moving.specs.Moving.{labelAfter}
 use Rattle.stencil.proofs.Sign.{winds}
 use Rattle.emit.specs.declared.Tetra.{Tetra}
@@ -78,17 +80,28 @@ pub record SmallCube (w : CubeWeights) : Type 0 where
   pub pp-small : w .pp ≤ 5
   pub mp-small : w .mp ≤ 5
 
+-- 1 for a sample above zero, 0 for any other
+abbrev pub counted : Bool → ℕ
+counted b = if b then 1 else 0
+
+unfoldable pub plusAt : List ℤ → ℕ → ℕ
+plusAt samples p = counted (isPlus (labelOf (getD samples p (pos 0))))
+
 -- no sample of a line of so many points from one on is above zero
 abbrev pub Light : List ℤ → ℕ → ℕ → Type 0
-Light samples from count = (x : ℕ) → x < count → weight (labelOf (getD samples (from + x) (pos 0))) < 5
+Light samples from count = (x : ℕ) → x < count → plusAt samples (from + x) ≡ 0
 
--- none of the six is plus; all of them are
-unfoldable pub bare : CubeWeights → Bool
-bare w = ltb (w .low) 5 && (ltb (w .high) 5 && (ltb (w .mm) 5 && (ltb (w .pm) 5 && (ltb (w .pp) 5 && ltb (w .mp) 5))))
+-- how many of the six points have a sample above zero, and whether none has moved
+abbrev pub total : (ℕ → ℕ) → Cube → ℕ
+total f c = f (c .low) + f (c .high) + (f (c .mm) + f (c .pm)) + (f (c .pp) + f (c .mp))
 
-unfoldable pub solidly : CubeWeights → Bool
-solidly w = eqb (w .low + w .high + w .mm + (w .pm + w .pp + w .mp)) 30
+unfoldable pub plusCount : List ℤ → Cube → ℕ
+plusCount samples c = total (plusAt samples) c
 
+unfoldable pub unmoved : List ℕ → Cube → Bool
+unmoved state c = eqb (total (λ p. getD state p 0) c) 0
+
+-- the weights of six plus points
 abbrev pub solidCube : CubeWeights
 solidCube = record { low = 5; high = 5; mm = 5; pm = 5; pp = 5; mp = 5 }
 

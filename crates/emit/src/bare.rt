@@ -3,11 +3,10 @@ use crate::Cube;
 use audit::ranges;
 ghost use mathlib.Core.Path.{_≡_};
 ghost use mathlib.Core.Bool.{true, false};
-ghost use mathlib.Core.List.{List};
 ghost use Prim.Native.Nat.{ℕ, _+_, _<_, _≤_};
 ghost use lib.ListN.{length};
 ghost use Rattle.emit.specs.Corners.{most};
-ghost use Rattle.emit.specs.Cubes.{Light, bare, cubeWeights};
+ghost use Rattle.emit.specs.Cubes.{Light, plusCount};
 ghost use Rattle.emit.specs.Passes.{movedCube, KnownRun};
 
 // A line of so many points from one on has a sample above zero.
@@ -28,8 +27,7 @@ pub fn is_bare_run(
 ) -> bool
     requires { ⌜ length (now samples) ≤ most ⌝ }
     requires { ⌜ KnownRun (length (now samples)) step corner centre count ⌝ }
-    ensures { λ r. ⌜ (r ≡ true → (state : List ℕ) (x : ℕ) → x < count
-        → bare (cubeWeights (now (samples .entry)) state (movedCube step (corner + x) (centre + x))) ≡ true) ⌝ }
+    ensures { λ r. ⌜ (r ≡ true → (x : ℕ) → x < count → plusCount (now (samples .entry)) (movedCube step (corner + x) (centre + x)) ≡ 0) ⌝ }
 {
     if count == 0 {
         return true;

@@ -10,7 +10,7 @@ use places::Place;
 use places::volume;
 ghost use mathlib.Core.Path.{_≡_};
 ghost use Prim.Native.Nat.{_+_, _<_, _≤_};
-ghost use lib.ListN.{length};
+ghost use lib.ListN.{length, getD};
 ghost use lib.Seq.{sets};
 ghost use Rattle.basics.specs.Lists.{gather, below};
 ghost use Rattle.moving.specs.Label.{labelOf};
@@ -19,7 +19,7 @@ ghost use Rattle.places.specs.Places.{placeAt, InBox, placeBox};
 ghost use Rattle.emit.specs.Corners.{most, quarterAt};
 ghost use Rattle.emit.specs.Picks.{weight};
 ghost use Rattle.emit.specs.Stencils.{Room, rowsMost};
-ghost use Rattle.emit.specs.Cubes.{weightAt, windsWith, cubeWeights, quarterOf, quarterWeights, KnownCube, SmallCube, bare, solidly, solidCube, cubeCount, edgeIds, cubeIds};
+ghost use Rattle.emit.specs.Cubes.{weightAt, windsWith, cubeWeights, quarterOf, quarterWeights, KnownCube, SmallCube, plusAt, plusCount, unmoved, solidCube, cubeCount, edgeIds, cubeIds};
 
 // The weight of a sample's sign.
 fn weight_of(x: i16) -> usize
@@ -193,48 +193,59 @@ fn winding(e: usize) -> bool
     }
 }
 
-// None of the six points is plus: the cube gives no row.
-fn is_bare(w: CubeWeights) -> bool
-    ensures { λ r. ⌜ r ≡ bare w ⌝ }
+// 1 for a sample above zero, 0 for any other.
+fn plus_at(samples: &[i16], p: usize) -> usize
+    requires { ⌜ p < length (now samples) ⌝ }
+    ensures { λ r. ⌜ r ≡ plusAt (now (samples .entry)) p ⌝ }
+    ensures { λ r. ⌜ r ≤ 1 ⌝ }
 {
-    if 5 <= w.low {
-        return false;
-    }
-    if 5 <= w.high {
-        return false;
-    }
-    if 5 <= w.mm {
-        return false;
-    }
-    if 5 <= w.pm {
-        return false;
-    }
-    if 5 <= w.pp {
-        return false;
-    }
-    if 5 <= w.mp {
-        return false;
-    }
-    true
+    if 0 < samples[p] { 1 } else { 0 }
 }
 
-// All six points are plus: the four tetrahedra are rows themselves.
-fn is_solid(w: CubeWeights) -> bool
-    requires { ⌜ SmallCube w ⌝ }
-    ensures { λ r. ⌜ r ≡ solidly w ⌝ }
+// How many of the six points have a sample above zero.
+fn count_plus(samples: &[i16], c: Cube) -> usize
+    requires { ⌜ KnownCube (length (now samples)) c ⌝ }
+    ensures { λ r. ⌜ r ≡ plusCount (now (samples .entry)) c ⌝ }
 {
-    w.low + w.high + w.mm + (w.pm + w.pp + w.mp) == 30
+    let centres = plus_at(samples, c.low) + plus_at(samples, c.high);
+    let front = plus_at(samples, c.mm) + plus_at(samples, c.pm);
+    let back = plus_at(samples, c.pp) + plus_at(samples, c.mp);
+    centres + front + back
 }
 
-// The four rows of such a cube, from an index on; the index after them.
+// A point's state byte.
+fn code_at(state: &[u8], p: usize) -> usize
+    requires { ⌜ p < length (now state) ⌝ }
+    ensures { λ r. ⌜ r ≡ getD (now (state .entry)) p 0 ⌝ }
+    ensures { λ r. ⌜ r ≤ 255 ⌝ }
+{
+    state[p] as usize
+}
+
+// None of the six points has moved.
+fn is_unmoved(state: &[u8], c: Cube) -> bool
+    requires { ⌜ KnownCube (length (now state)) c ⌝ }
+    ensures { λ r. ⌜ r ≡ unmoved (now (state .entry)) c ⌝ }
+{
+    let centres = code_at(state, c.low) + code_at(state, c.high);
+    let front = code_at(state, c.mm) + code_at(state, c.pm);
+    let back = code_at(state, c.pp) + code_at(state, c.mp);
+    centres + front + back == 0
+}
+
+// The rows of a cube of six plus points, from an index on: its four tetrahedra. Into an empty table
+// rows are only counted. Answers the index after them.
 fn write_solid_cube(rows: &mut [u32], at: usize, n: usize, c: Cube) -> usize
     requires { ⌜ n ≤ most ⌝ }
     requires { ⌜ KnownCube n c ⌝ }
     requires { ⌜ at + 48 ≤ rowsMost ⌝ }
-    requires { ⌜ at + length (gather (edgeIds n c solidCube) (below 4)) ≤ length (now rows) ⌝ }
+    requires { ⌜ Room (now rows) at (length (gather (edgeIds n c solidCube) (below 4))) ⌝ }
     ensures { λ r. ⌜ r ≡ at + length (gather (edgeIds n c solidCube) (below 4)) ⌝ }
     ensures { λ r. ⌜ now (rows .exit) ≡ sets (now (rows .entry)) at (gather (edgeIds n c solidCube) (below 4)) ⌝ }
 {
+    if rows.len() == 0 {
+        return at + 16;
+    }
     let mut to = at;
     for e in 0..4 {
         let wound = winding(e);
@@ -259,9 +270,8 @@ fn count_cube(w: CubeWeights) -> usize
     first + second + third + fourth
 }
 
-// The rows of the four tetrahedra between a cube and the next one, from an index on; the index after
-// them.
-pub fn write_cube(
+// The rows of any cube, by the labels of its six points.
+fn write_mixed_cube(
     rows: &mut [u32],
     at: usize,
     n: usize,
@@ -278,14 +288,8 @@ pub fn write_cube(
     ensures { λ r. ⌜ now (rows .exit) ≡ sets (now (rows .entry)) at (cubeIds n (now (samples .entry)) (now (state .entry)) c) ⌝ }
 {
     let w = weigh_cube(samples, state, c);
-    if is_bare(w) {
-        return at;
-    }
     if rows.len() == 0 {
         return at + 4 * count_cube(w);
-    }
-    if is_solid(w) {
-        return write_solid_cube(rows, at, n, c);
     }
     let mut to = at;
     for e in 0..4 {
@@ -295,4 +299,34 @@ pub fn write_cube(
         to = writing::write_tetra(rows, to, n, wound, t, labels);
     }
     to
+}
+
+// The rows of the four tetrahedra between a cube and the next one, from an index on; the index after
+// them. Most cubes are air or rubber, and a glance tells.
+pub fn write_cube(
+    rows: &mut [u32],
+    at: usize,
+    n: usize,
+    samples: &[i16],
+    state: &[u8],
+    c: Cube,
+) -> usize
+    requires { ⌜ n ≤ most ⌝ }
+    requires { ⌜ (length (now samples) ≡ n) × (length (now state) ≡ n) ⌝ }
+    requires { ⌜ KnownCube n c ⌝ }
+    requires { ⌜ at + 48 ≤ rowsMost ⌝ }
+    requires { ⌜ Room (now rows) at (length (cubeIds n (now samples) (now state) c)) ⌝ }
+    ensures { λ r. ⌜ r ≡ at + length (cubeIds n (now (samples .entry)) (now (state .entry)) c) ⌝ }
+    ensures { λ r. ⌜ now (rows .exit) ≡ sets (now (rows .entry)) at (cubeIds n (now (samples .entry)) (now (state .entry)) c) ⌝ }
+{
+    let plus = count_plus(samples, c);
+    if plus == 0 {
+        return at;
+    }
+    if plus == 6 {
+        if is_unmoved(state, c) {
+            return write_solid_cube(rows, at, n, c);
+        }
+    }
+    write_mixed_cube(rows, at, n, samples, state, c)
 }

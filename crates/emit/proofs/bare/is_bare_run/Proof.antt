@@ -8,7 +8,7 @@ use Rattle.emit.proofs.bare.is_bare_run.Statement.{statement}
 use Rattle.emit.proofs.bare.is_bare_run.Tie as tie
 
 returns : tie.Need-returns
-returns c = λ t state x h. absurd (omega (arith, h, c .if1 .taken))
+returns c = λ t x h. absurd (omega (arith, h, c .if1 .taken))
 
 add-has-plus : tie.Need-add-has-plus
 add-has-plus c =

@@ -1,8 +1,9 @@
--- Four rows, one after the other. Assumes nothing.
+-- Four rows, one after the other, or counted into an empty table. Assumes nothing.
 use Rattle.emit.proofs.StencilLaws.{solid-long}
-use Rattle.emit.proofs.CubeLaws.{edge-known, solid-quarter, solid-edge, solid-edge-most}
-use Rattle.emit.proofs.Written.{Written, none-written, more-written, fits-left, index-most, kept-long, all-written}
+use Rattle.emit.proofs.CubeLaws.{edge-known, solid-quarter, solid-edge, solid-edge-most, solid-cube-long}
+use Rattle.emit.proofs.Written.{Written, none-written, more-written, room-left, index-most, sets-none, kept-long, all-written}
 use Rattle.emit.specs.Cubes.{edgeIds, solidCube}
+use Rattle.basics.specs.Lists.{gather, below}
 use Prim.Native.Nat.{_-_, _≤_}
 use native.Mathlib.Omega.{arith}
 use borrow.Author.Needs.{needs}
@@ -15,6 +16,14 @@ Inv rows₀ at n c to₀ e₀ rows to e = (e ≤ 4) × Written (edgeIds n c soli
 abbrev μ : tie.MeasureT-loop
 μ rows₀ at n c to₀ e₀ rows to e = 4 - e
 
+add-result : tie.Need-add-result Inv μ
+add-result c = search needs
+
+returns : tie.Need-returns Inv μ
+returns c =
+    let a = c .before .before in
+    (omega (arith, solid-cube-long (a .args .n) (a .args .c)), sets-none _ (gather (edgeIds (a .args .n) (a .args .c) solidCube) (below 4)) (a .args .at) (c .if1 .taken))
+
 loop-holds : tie.Need-loop-holds Inv μ
 loop-holds c = (omega arith, none-written _ _ _)
 
@@ -26,19 +35,19 @@ quarter-requires c κs = search needs
 
 write-solid-requires : tie.Need-write-solid-requires Inv μ
 write-solid-requires c κs =
-    let i = c .before .before .before .before in
-    let a = i .before .before in
+    let a = c .before .before .before .before .before .before .before in
+    let i = c .before .before .before .before .loop in
     let w = c .before .before .winding in
     let q = c .before .quarter in
-    let edge = solid-edge (a .args .n) (a .args .c) (i .loop .e) _ _ (w .ensures) (q .ensures) in
+    let room = room-left (i .inv .1) 4 (solid-edge (a .args .n) (a .args .c) (i .e) _ _ (w .ensures) (q .ensures)) (c .before .before .before .loop-test .taken) (a .pre .1 .1 .1) in
+    let long = solid-long (a .args .n) (w .result) (q .result) in
     (a .pre .0,
-    (edge-known (a .args .n) (a .args .c) solidCube (i .loop .e) _ _ _ (w .ensures) (q .ensures) (solid-quarter (a .args .n) (a .args .c) (i .loop .e))
-    (a .pre .1 .0),
-    omega (arith, solid-long (a .args .n) (w .result) (q .result), fits-left (i .loop .inv .1) 4 edge (c .before .before .before .loop-test .taken) (a .pre .1 .1 .1))))
+    (edge-known (a .args .n) (a .args .c) solidCube (i .e) _ _ _ (w .ensures) (q .ensures) (solid-quarter (a .args .n) (a .args .c) (i .e)) (a .pre .1 .0),
+    omega (arith, long, kept-long (i .inv .1), room .fits (omega (arith, kept-long (i .inv .1), c .before .before .before .before .before .if1 .left)))))
 
 add-to : tie.Need-add-to Inv μ
 add-to c =
-    let a = c .before .before .before .before .before .before .before .before .before in
+    let a = c .before .before .before .before .before .before .before .before .before .before in
     let i = c .before .before .before .before .before .before .before .loop in
     omega (arith, index-most (i .inv .1) 4 4 (solid-edge-most (a .args .n) (a .args .c)) (i .inv .0), a .pre .1 .1 .0)
 
@@ -50,7 +59,7 @@ loop-less c = omega arith
 
 loop-again : tie.Need-loop-again Inv μ
 loop-again c =
-    let a = c .before .before .before .before .before .before .before .before .before in
+    let a = c .before .before .before .before .before .before .before .before .before .before in
     let i = c .before .before .before .before .before .before .before .loop in
     let w = c .before .before .before .before .before .winding in
     let q = c .before .before .before .before .quarter in
@@ -61,8 +70,8 @@ loop-again c =
 same-length : tie.Need-same-length Inv μ
 same-length c = kept-long (c .before .loop .inv .1)
 
-returns : tie.Need-returns Inv μ
-returns c = all-written (c .before .loop .inv .1) 4 (omega arith) (omega arith)
+returns-2 : tie.Need-returns-2 Inv μ
+returns-2 c = all-written (c .before .loop .inv .1) 4 (omega arith) (omega arith)
 
 pub write-solid-cube-spec : {M : Type 1} → statement M
 write-solid-cube-spec =
@@ -70,6 +79,8 @@ write-solid-cube-spec =
     (tie.spec
     Inv
     μ
+    add-result
+    returns
     loop-holds
     winding-requires
     quarter-requires
@@ -79,4 +90,4 @@ write-solid-cube-spec =
     loop-less
     loop-again
     same-length
-    returns)
+    returns-2)

@@ -19,7 +19,7 @@ is-bare-run-requires : tie.Need-is-bare-run-requires Inv μ
 is-bare-run-requires c κs = let a = c .before .before .pre in (omega (arith, a .0, a .1 .0 .0), run-as _ _ _ _ (a .1 .0 .0) (a .1 .1 .0))
 
 returns : tie.Need-returns Inv μ
-returns c = bare-run-written _ _ _ _ _ _ _ (c .before .is-bare-run .ensures (c .if1 .taken) _) _ _
+returns c = bare-run-written _ _ _ _ _ _ _ (c .before .is-bare-run .ensures (c .if1 .taken)) _ _
 
 loop-holds : tie.Need-loop-holds Inv μ
 loop-holds c = (omega arith, none-written _ _ _)
