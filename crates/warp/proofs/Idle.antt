@@ -6,9 +6,7 @@ use mathlib.Core.Logic.{inl, inr}
 use mathlib.Core.Bool.{Bool, true, false, _&&_}
 use mathlib.Core.List.{List}
 use lib.IntN.{ℤ, pos}
-use lib.Dec.{eqb}
 use lib.ListN.{length, getD, take, set}
-use borrow.Author.Tests.{eqb-true}
 use Rattle.basics.specs.Lists.{firstFrom}
 use Rattle.basics.proofs.Test.{false-F, lt-or}
 use Rattle.basics.proofs.Search.{first-found}
@@ -21,7 +19,6 @@ use Rattle.lattice.specs.Counts.{Sized, grid}
 use Rattle.lattice.specs.Direction.{Code}
 use Rattle.lattice.specs.Edge.{near, neighbour, edgeByte}
 use Rattle.lattice.specs.Site.{Sited, index}
-use Rattle.lattice.proofs.Bounds.{points-small}
 use Rattle.lattice.proofs.Sites.{by-direction}
 use Rattle.moving.specs.Block.{Block, blockOf, sample, cutByte, Tabled}
 use Rattle.moving.specs.Violation.{violates}
@@ -30,19 +27,11 @@ use Rattle.filling.specs.Fill.{movedCount}
 use Rattle.audit.specs.Lines.{Line, lineAt}
 use Rattle.audit.proofs.Points.{sited}
 use Rattle.audit.proofs.Lines.{line-stands, line-at}
-use Rattle.warp.specs.Quick.{startAt, Uncut, Idle, Coded}
+use Rattle.warp.specs.Quick.{startAt, About, Uncut, Idle, Coded}
 use Rattle.warp.proofs.Signs.{still-sample}
-use Rattle.warp.proofs.Sites.{site-lt, site-near}
+use Rattle.warp.proofs.Sites.{site-near}
 use Rattle.warp.proofs.Codes.{near-still, Searching, search-ends, coded-next, counted-still}
 use Rattle.warp.proofs.Starts.{byte-start, byte-end, start-first, start-fourth, start-sixth, start-within}
-
--- a site's number and its bytes are in the tables, and small
-pub own-fits : (s : Sizes) (samples : List ℤ) (cuts : List ℕ) (q : Site) → Tabled (blockOf s samples cuts) → Sited s q
-    → (q .own < length samples) × (7 * q .own + 7 ≤ length cuts) × (q .own ≤ 536769)
-own-fits s samples cuts q t g =
-    let l = site-lt s q (t .sized) g in
-    let m = points-small s (t .sized) in
-    (omega (arith, t .samples-long), omega (arith, t .cuts-long), omega arith)
 
 and-false : (t : Bool) → (t && false) ≡ false
 and-false true = refl
@@ -101,6 +90,31 @@ module _ (b : Block) (q : Site) (h : Sized (b .sizes)) (g : Sited (b .sizes) q) 
             | inr u ↦ ap (cutByte b) (sym (byte-start (q .own) c e (k .low) u)) ∙ starts (c - 1) (omega arith)
           ]
 
+  -- the same with the fourteen bytes side by side
+  pub idle-about : (about : List ℕ) → About (b .sizes) (b .cuts) q about → ((j : ℕ) → j < 14 → getD about j 0 ≡ 0) → Idle b (q .own)
+  idle-about about a z =
+      record {
+        unviolated = λ done c k.
+            unviolated b done (q .own) c (λ e m.
+            none-violates c _ (sym (a .is c k e (sym (site-near (b .sizes) q h g c) ∙ m)) ∙ z (c - 1) (omega (arith, k .low, k .high))));
+      }
+
+-- fourteen bytes by their directions
+abbrev pub byteIs : Sizes → List ℕ → Site → List ℕ → ℕ → Type 0
+byteIs s cuts q about c =
+    (e : ℕ) → near s (q .kind) (index q) c ≡ At e → getD about (c - 1) 0 ≡ getD cuts (edgeByte (q .own) c e) 0
+
+pub about-from : (s : Sizes) (cuts : List ℕ) (q : Site) (about : List ℕ) → ((d : ℕ) → d < 7 → byteIs s cuts q about (d + 1))
+    → ((d : ℕ) → d < 7 → byteIs s cuts q about (d + 8)) → About s cuts q about
+about-from s cuts q about f g = record { is = λ c k. cases c k }
+  where
+    cases : (c : ℕ) → Code c → byteIs s cuts q about c
+    cases c k =
+        elim (lt-or 7 c) [
+          | inl u ↦ let x : c - 8 + 8 ≡ c = omega arith in subst (byteIs s cuts q about) x (g (c - 8) (omega (arith, k .high)))
+          | inr u ↦ let x : c - 1 + 1 ≡ c = omega (arith, k .low) in subst (byteIs s cuts q about) x (f (c - 1) (omega (arith, k .low)))
+        ]
+
 pub uncut-from : {cuts : List ℕ} {r t m : ℕ} → r ≡ t → Uncut cuts r m → Uncut cuts t m
 uncut-from {cuts} {m = m} e u = subst (λ (k : ℕ). Uncut cuts k m) e u
 
@@ -157,9 +171,6 @@ coded-idle {b} {p} {state} w h i = coded-next b w (omega (arith, w .long)) (idle
 pub idle-counted : (b : Block) (p n : ℕ) → ((j : ℕ) → p ≤ j → j < p + n → Idle b j) → movedCount (codes b (p + n)) ≡ movedCount (codes b p)
 idle-counted b p n h = counted-still b p n (λ j a u. idle-stays (codes b j) (h j a u))
 
--- seven numbers that add up to nothing
-pub all-zero : (a b c d e f g : ℕ) → eqb (a + b + c + (d + e + f + g)) 0 ≡ true
-    → (a ≡ 0) × (b ≡ 0) × (c ≡ 0) × (d ≡ 0) × (e ≡ 0) × (f ≡ 0) × (g ≡ 0)
-all-zero a b c d e f g t =
-    let z = eqb-true (a + b + c + (d + e + f + g)) 0 t in
-    (omega arith, omega arith, omega arith, omega arith, omega arith, omega arith, omega arith)
+-- an idle point by its number
+pub idle-at : (s : Sizes) (samples : List ℤ) (cuts : List ℕ) (q : Site) (p : ℕ) → q .own ≡ p → Idle (blockOf s samples cuts) (q .own) → Idle (blockOf s samples cuts) p
+idle-at s samples cuts q p e i = subst (Idle (blockOf s samples cuts)) e i

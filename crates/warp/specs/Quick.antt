@@ -11,7 +11,10 @@ use Rattle.lattice.specs.declared.Kind.{Kind}
 use Rattle.lattice.specs.declared.Kind.the-variants.{Corner, Centre}
 use Rattle.lattice.specs.declared.Site.{Site}
 use Rattle.lattice.specs.Counts.{points}
+use Rattle.lattice.specs.declared.Near.the-variants.{At}
 use Rattle.lattice.specs.Direction.{Code}
+use Rattle.lattice.specs.Edge.{near, edgeByte}
+use Rattle.lattice.specs.Site.{index}
 use Rattle.moving.specs.Block.{Block}
 use Rattle.moving.specs.Moving.{violatedBy, codes}
 
@@ -38,6 +41,10 @@ startAt s q = startOf (q .kind) s q
 -- no cut on the edges that start at the m + 1 points from one on
 pub record Uncut (cuts : List ℕ) (from m : ℕ) : Type 0 where
   pub none : (p : ℕ) → from ≤ p → p ≤ from + m → (d : ℕ) → d < 7 → getD cuts (7 * p + d) 0 ≡ 0
+
+-- the cut bytes of a point's fourteen edges in code order; where there is no edge any byte may stand
+pub record About (s : Sizes) (cuts : List ℕ) (q : Site) (about : List ℕ) : Type 0 where
+  pub is : (c : ℕ) → Code c → (e : ℕ) → near s (q .kind) (index q) c ≡ At e → getD about (c - 1) 0 ≡ getD cuts (edgeByte (q .own) c e) 0
 
 -- whatever has moved, no cut violates the point
 pub record Idle (b : Block) (p : ℕ) : Type 0 where

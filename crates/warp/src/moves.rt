@@ -1,7 +1,6 @@
 // Which points move, and by which code.
 use crate::bytes;
 use crate::violation;
-use audit::ranges;
 use audit::walk;
 use lattice::Near;
 use lattice::Site;
@@ -13,19 +12,21 @@ ghost use mathlib.Core.Path.{_≡_};
 ghost use mathlib.Core.Bool.{true};
 ghost use mathlib.Core.List.{List};
 ghost use Prim.Native.Nat.{ℕ, _+_, _<_, _≤_};
-ghost use lib.ListN.{length};
+ghost use lib.ListN.{length, getD};
 ghost use Rattle.lattice.specs.declared.Sizes.{Sizes};
+ghost use Rattle.lattice.specs.declared.Site.{Site};
 ghost use Rattle.lattice.specs.declared.Near.the-variants.{At};
 ghost use Rattle.lattice.specs.Axis.{along-x};
-ghost use Rattle.lattice.specs.Counts.{grid, points};
+ghost use Rattle.lattice.specs.Counts.{Sized, grid, points};
 ghost use Rattle.lattice.specs.Direction.{Code};
-ghost use Rattle.lattice.specs.Site.{Sited};
+ghost use Rattle.lattice.specs.Edge.{near, edgeByte};
+ghost use Rattle.lattice.specs.Site.{Sited, index};
 ghost use Rattle.moving.specs.Block.{Block, blockOf, Tabled};
 ghost use Rattle.moving.specs.Label.{isZero};
 ghost use Rattle.moving.specs.Moving.{labelAfter, violatedAlong, violatedBy, codes, stateOf};
 ghost use Rattle.filling.specs.Fill.{movedCount};
 ghost use Rattle.audit.specs.Lines.{Line};
-ghost use Rattle.warp.specs.Quick.{Idle, Coded};
+ghost use Rattle.warp.specs.Quick.{About, Idle, Coded};
 
 // A point's label is zero: its sample is, or it is among the points done and has moved. Sizes and
 // cuts do not enter.
@@ -88,14 +89,23 @@ fn is_violated_far(
     }
 }
 
-// The same, asking first whether the byte violates at all: then few neighbours are looked up.
-fn is_violated(s: Sizes, samples: &[i16], cuts: &[u8], done: &[u8], q: Site, code: usize) -> bool
+// The same for a byte t that is the edge's if there is one, asking first whether it violates at all:
+// then few neighbours are looked up.
+fn is_violated(
+    s: Sizes,
+    samples: &[i16],
+    cuts: &[u8],
+    done: &[u8],
+    q: Site,
+    code: usize,
+    t: u8,
+) -> bool
     requires { ⌜ Tabled (blockOf s (now samples) (now cuts)) ⌝ }
     requires { ⌜ Code code ⌝ }
     requires { ⌜ Sited s q ⌝ }
+    requires { ⌜ ((e : ℕ) → near s (q .kind) (index q) code ≡ At e → t ≡ getD (now cuts) (edgeByte (q .own) code e) 0) ⌝ }
     ensures { λ r. ⌜ r ≡ violatedBy (blockOf s (now (samples .entry)) (now (cuts .entry))) (now (done .entry)) (q .own) code ⌝ }
 {
-    let t = bytes::cut_by(s, cuts, q, code);
     if violation::violates(code, t) {
         return is_violated_far(s, samples, cuts, done, q, code);
     }
@@ -103,20 +113,19 @@ fn is_violated(s: Sizes, samples: &[i16], cuts: &[u8], done: &[u8], q: Site, cod
 }
 
 // Nothing has to be searched: the sample is zero, or no cut stands on any of the fourteen edges.
-fn is_idle(s: Sizes, samples: &[i16], cuts: &[u8], q: Site) -> bool
-    requires { ⌜ Tabled (blockOf s (now samples) (now cuts)) ⌝ }
-    requires { ⌜ Sited s q ⌝ }
-    ensures { λ r. ⌜ (r ≡ true → Idle (blockOf s (now (samples .entry)) (now (cuts .entry))) (q .own)) ⌝ }
+fn is_idle(samples: &[i16], p: usize, about: [u8; 14]) -> bool
+    requires { ⌜ (p < length (now samples)) × (length (now samples) ≤ 1000000) ⌝ }
+    ensures { λ r. ⌜ (r ≡ true → (s : Sizes) (cuts : List ℕ) (q : Site) → Sized s → Sited s q → q .own ≡ p → About s cuts q about → Idle (blockOf s (now (samples .entry)) cuts) p) ⌝ }
 {
-    let p = q.own;
     if samples[p] == 0 {
         return true;
     }
-    let at = 7 * p;
-    if ranges::is_blank(cuts, at, at + 7) {
-        return bytes::ends_no_cut(s, cuts, q);
+    for k in 0..14 {
+        if about[k] != 0 {
+            return false;
+        }
     }
-    false
+    true
 }
 
 // The codes of a line of points, where the codes before it stand in the table; the search of a point
@@ -135,15 +144,17 @@ fn warp_line(s: Sizes, samples: &[i16], cuts: &[u8], state: &mut [u8], q: Site) 
     for x in 0..m {
         let p = own + x;
         let here = walk::along(q, x);
+        let about = bytes::cuts_about(s, cuts, here);
         let mut code: u8 = 1;
-        if is_idle(s, samples, cuts, here) {
+        if is_idle(samples, p, about) {
             code = 15;
         }
         let found = 'search: loop {
             if 14 < code {
                 break 'search 0;
             }
-            if is_violated(s, samples, cuts, &state[..p], here, code as usize) {
+            let c = code as usize;
+            if is_violated(s, samples, cuts, &state[..p], here, c, about[c - 1]) {
                 break 'search code;
             }
             code += 1;
