@@ -19,7 +19,7 @@ ghost use Rattle.lattice.specs.Edge.{near, edgeByte};
 ghost use Rattle.lattice.specs.Site.{Sited, index};
 ghost use Rattle.moving.specs.Block.{blockOf};
 ghost use Rattle.audit.specs.Lines.{Line};
-ghost use Rattle.warp.specs.Quick.{startBack, startAt, About, Uncut, Idle};
+ghost use Rattle.warp.specs.Quick.{startBack, startAt, About, Uncut, IdleFrom};
 
 // So many numbers before p, or 0.
 fn before(p: usize, stride: usize) -> usize
@@ -136,7 +136,7 @@ fn is_uncut(cuts: &[u8], from: usize, m: usize) -> bool
 pub fn is_idle_line(s: Sizes, cuts: &[u8], q: Site) -> bool
     requires { ⌜ Sized s ⌝ }
     requires { ⌜ Line s (q .own) q ⌝ }
-    ensures { λ r. ⌜ (r ≡ true → (samples : List ℤ) (x : ℕ) → x < grid s (q .kind) along-x → Idle (blockOf s samples (now (cuts .entry))) (q .own + x)) ⌝ }
+    ensures { λ r. ⌜ (r ≡ true → (a : List ℤ) → IdleFrom (blockOf s a (now (cuts .entry))) (q .own) (q .own + grid s (q .kind) along-x)) ⌝ }
 {
     let kind = q.kind;
     let m = walk::line_length(s, kind);

@@ -11,22 +11,21 @@ use lattice::numbers;
 ghost use mathlib.Core.Path.{_≡_};
 ghost use mathlib.Core.Bool.{true};
 ghost use mathlib.Core.List.{List};
-ghost use Prim.Native.Nat.{ℕ, _+_, _<_, _≤_};
+ghost use Prim.Native.Nat.{ℕ, _<_, _≤_};
 ghost use lib.ListN.{length, getD};
 ghost use Rattle.lattice.specs.declared.Sizes.{Sizes};
-ghost use Rattle.lattice.specs.declared.Site.{Site};
 ghost use Rattle.lattice.specs.declared.Near.the-variants.{At};
 ghost use Rattle.lattice.specs.Axis.{along-x};
-ghost use Rattle.lattice.specs.Counts.{Sized, grid, points};
+ghost use Rattle.lattice.specs.Counts.{grid, points};
 ghost use Rattle.lattice.specs.Direction.{Code};
 ghost use Rattle.lattice.specs.Edge.{near, edgeByte};
 ghost use Rattle.lattice.specs.Site.{Sited, index};
 ghost use Rattle.moving.specs.Block.{Block, blockOf, Tabled};
 ghost use Rattle.moving.specs.Label.{isZero};
-ghost use Rattle.moving.specs.Moving.{labelAfter, violatedAlong, violatedBy, codes, stateOf};
+ghost use Rattle.moving.specs.Moving.{labelAfter, violatedAlong, violatedBy, stateOf};
 ghost use Rattle.filling.specs.Fill.{movedCount};
 ghost use Rattle.audit.specs.Lines.{Line};
-ghost use Rattle.warp.specs.Quick.{About, Idle, Coded};
+ghost use Rattle.warp.specs.Quick.{IdleFrom, IdleBy, Coded, Added};
 
 // A point's label is zero: its sample is, or it is among the points done and has moved. Sizes and
 // cuts do not enter.
@@ -115,7 +114,7 @@ fn is_violated(
 // Nothing has to be searched: the sample is zero, or no cut stands on any of the fourteen edges.
 fn is_idle(samples: &[i16], p: usize, about: [u8; 14]) -> bool
     requires { ⌜ (p < length (now samples)) × (length (now samples) ≤ 1000000) ⌝ }
-    ensures { λ r. ⌜ (r ≡ true → (s : Sizes) (cuts : List ℕ) (q : Site) → Sized s → Sited s q → q .own ≡ p → About s cuts q about → Idle (blockOf s (now (samples .entry)) cuts) p) ⌝ }
+    ensures { λ r. ⌜ (r ≡ true → IdleBy (now (samples .entry)) p about) ⌝ }
 {
     if samples[p] == 0 {
         return true;
@@ -134,8 +133,7 @@ fn warp_line(s: Sizes, samples: &[i16], cuts: &[u8], state: &mut [u8], q: Site) 
     requires { ⌜ Tabled (blockOf s (now samples) (now cuts)) ⌝ }
     requires { ⌜ Line s (q .own) q ⌝ }
     requires { ⌜ Coded (blockOf s (now samples) (now cuts)) (q .own) (now state) ⌝ }
-    ensures { λ r. ⌜ Coded (blockOf s (now (samples .entry)) (now (cuts .entry))) (q .own + grid s (q .kind) along-x) (now (state .exit)) ⌝ }
-    ensures { λ r. ⌜ r + movedCount (codes (blockOf s (now (samples .entry)) (now (cuts .entry))) (q .own)) ≡ movedCount (codes (blockOf s (now (samples .entry)) (now (cuts .entry))) (q .own + grid s (q .kind) along-x)) ⌝ }
+    ensures { λ r. ⌜ Added (blockOf s (now (samples .entry)) (now (cuts .entry))) (q .own) (grid s (q .kind) along-x) (now (state .exit)) r ⌝ }
 {
     let kind = q.kind;
     let own = q.own;
@@ -170,7 +168,7 @@ fn warp_line(s: Sizes, samples: &[i16], cuts: &[u8], state: &mut [u8], q: Site) 
 // The codes of points that do not move.
 fn rest(state: &mut [u8], from: usize, to: usize)
     requires { ⌜ (from ≤ to) × (to ≤ length (now state)) ⌝ }
-    ensures { λ r. ⌜ ((b : Block) → Coded b from (now (state .entry)) → ((p : ℕ) → from ≤ p → p < to → Idle b p) → Coded b to (now (state .exit))) ⌝ }
+    ensures { λ r. ⌜ ((b : Block) → Coded b from (now (state .entry)) → IdleFrom b from to → Coded b to (now (state .exit))) ⌝ }
 {
     for p in from..to {
         state[p] = 0;

@@ -76,7 +76,8 @@ returns-2 c =
     let l = c .before .before .before .before .before .before in
     let a = l .before .before in
     λ t. level-fine (a .args .s) _ (a .args .q) (a .pre .1) (a .pre .0 .sized) (a .pre .0 .samples-long) _ _ _ _ (l .line-length .ensures .0)
-    (c .before .before .before .ends .ensures) (c .before .before .before .before .before .is-blank .ensures (c .before .before .before .before .if1 .taken))
+    (c .before .before .before .ends .ensures)
+    (c .before .before .before .before .before .is-blank .ensures (c .before .before .before .before .if1 .taken))
     (c .is-level2 .ensures t)
 
 returns-3 : tie.Need-returns-3

@@ -48,7 +48,9 @@ cut-by-requires-13 : tie.Need-cut-by-requires-13
 cut-by-requires-13 c κs = search needs
 
 cut-by-requires-14 : tie.Need-cut-by-requires-14
-cut-by-requires-14 c κs = let a = c .before .before .before .before .before .before .before .before .before .before .before .before .before .before in (a .pre .0, (a .pre .1, record { low = omega arith; high = omega arith }))
+cut-by-requires-14 c κs =
+    let c7 = c .before .before .before .before .before .before .before in
+    let a = c7 .before .before .before .before .before .before .before in (a .pre .0, (a .pre .1, record { low = omega arith; high = omega arith }))
 
 returns : tie.Need-returns
 returns c =
@@ -67,12 +69,14 @@ returns c =
     let k2 = k3 .before in
     let k1 = k2 .before in
     let a = k1 .before .before .args in
-    let r = k1 .cut-by .result ∷ k2 .cut-by2 .result ∷ k3 .cut-by3 .result ∷ k4 .cut-by4 .result ∷ k5 .cut-by5 .result ∷ k6 .cut-by6 .result ∷ k7 .cut-by7 .result ∷ k8 .cut-by8 .result ∷ k9 .cut-by9 .result ∷ k10 .cut-by10 .result ∷ k11 .cut-by11 .result ∷ k12 .cut-by12 .result ∷ k13 .cut-by13 .result ∷ k14 .cut-by14 .result ∷ [] in
+    let last = k11 .cut-by11 .result ∷ k12 .cut-by12 .result ∷ k13 .cut-by13 .result ∷ k14 .cut-by14 .result ∷ [] in
+    let mid = k6 .cut-by6 .result ∷ k7 .cut-by7 .result ∷ k8 .cut-by8 .result ∷ k9 .cut-by9 .result ∷ k10 .cut-by10 .result ∷ last in
+    let r = k1 .cut-by .result ∷ k2 .cut-by2 .result ∷ k3 .cut-by3 .result ∷ k4 .cut-by4 .result ∷ k5 .cut-by5 .result ∷ mid in
     about-from (a .s) (a .cuts .now) (a .q) r
-    (by-direction (λ d. byteIs (a .s) (a .cuts .now) (a .q) r (d + 1))
-    (k1 .cut-by .ensures) (k2 .cut-by2 .ensures) (k3 .cut-by3 .ensures) (k4 .cut-by4 .ensures) (k5 .cut-by5 .ensures) (k6 .cut-by6 .ensures) (k7 .cut-by7 .ensures))
-    (by-direction (λ d. byteIs (a .s) (a .cuts .now) (a .q) r (d + 8))
-    (k8 .cut-by8 .ensures) (k9 .cut-by9 .ensures) (k10 .cut-by10 .ensures) (k11 .cut-by11 .ensures) (k12 .cut-by12 .ensures) (k13 .cut-by13 .ensures) (k14 .cut-by14 .ensures))
+    (by-direction (λ d. byteIs (a .s) (a .cuts .now) (a .q) r (d + 1)) (k1 .cut-by .ensures) (k2 .cut-by2 .ensures) (k3 .cut-by3 .ensures)
+    (k4 .cut-by4 .ensures) (k5 .cut-by5 .ensures) (k6 .cut-by6 .ensures) (k7 .cut-by7 .ensures))
+    (by-direction (λ d. byteIs (a .s) (a .cuts .now) (a .q) r (d + 8)) (k8 .cut-by8 .ensures) (k9 .cut-by9 .ensures) (k10 .cut-by10 .ensures)
+    (k11 .cut-by11 .ensures) (k12 .cut-by12 .ensures) (k13 .cut-by13 .ensures) (k14 .cut-by14 .ensures))
 
 pub cuts-about-spec : {M : Type 1} → statement M
 cuts-about-spec =

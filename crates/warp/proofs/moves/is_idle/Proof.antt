@@ -6,7 +6,7 @@ use lib.Dec.{T}
 use lib.ListN.{getD}
 use borrow.Author.Count.{below-more}
 use Rattle.warp.proofs.Signs.{bits-zero}
-use Rattle.warp.proofs.Idle.{idle-sample, idle-about, idle-at}
+use Rattle.warp.proofs.Idle.{idle-by-sample, idle-by-bytes}
 use Rattle.warp.proofs.moves.is_idle.Statement.{statement}
 use Rattle.warp.proofs.moves.is_idle.Tie as tie
 
@@ -23,7 +23,7 @@ shared-slice-copy-out-if1 : tie.Need-shared-slice-copy-out-if1 Inv-loop μ-loop
 shared-slice-copy-out-if1 c = omega arith
 
 returns : tie.Need-returns Inv-loop μ-loop
-returns c = λ t s cuts q h g e a. idle-sample _ _ (bits-zero _ (c .before .if12 .given) (c .if1 .taken))
+returns c = λ t. idle-by-sample _ _ _ (bits-zero _ (c .before .if12 .given) (c .if1 .taken))
 
 loop-holds : tie.Need-loop-holds Inv-loop μ-loop
 loop-holds c = (omega arith, λ j l. absurd (omega arith))
@@ -44,8 +44,7 @@ loop-again : tie.Need-loop-again Inv-loop μ-loop
 loop-again c = (omega arith, below-more _ _ (c .before .before .loop .inv .1) (c .if2 .left))
 
 returns-3 : tie.Need-returns-3 Inv-loop μ-loop
-returns-3 c =
-    λ t s cuts q h g e a. idle-at s _ cuts q _ e (idle-about _ q h g _ a (λ j l. c .before .loop .inv .1 j (omega arith)))
+returns-3 c = λ t. idle-by-bytes _ _ _ (λ j l. c .before .loop .inv .1 j (omega arith))
 
 pub is-idle-spec : {M : Type 1} → statement M
 is-idle-spec =

@@ -18,7 +18,7 @@ use Rattle.audit.proofs.Lines.{line-stands, line-fits}
 use Rattle.warp.specs.Quick.{Coded}
 use Rattle.warp.proofs.Sites.{along-sited, along-own}
 use Rattle.warp.proofs.Codes.{Searching, search-starts, search-on, search-ends, search-finds, at-point}
-use Rattle.warp.proofs.Codes.{Walked, walked-starts, walked-next, counted-few, count-move, count-stay}
+use Rattle.warp.proofs.Codes.{Walked, walked-starts, walked-next, walked-whole, counted-few, count-move, count-stay}
 use Rattle.warp.proofs.Idle.{search-idle}
 use borrow.Author.Needs.{needs}
 use Rattle.warp.proofs.moves.warp_line.Statement.{statement}
@@ -79,8 +79,11 @@ search-holds c =
     let l = h .before .before .before in
     let a = l .before .before .before in
     let i : h .before .before .loop .x < grid (a .args .s) (a .args .q .kind) along-x = omega (arith, l .line-length .ensures .0) in
-    ⊎-elim (λ w. rw (w .1) (search-idle _ (c .before .is-idle .ensures (w .0 .taken) (a .args .s) (a .args .cuts .now) (h .along .result) (a .pre .0 .sized)
-    (along-sited (a .pre .1 .0) i (h .along .ensures)) (along-own (a .pre .1 .0) i (h .along .ensures)) (c .before .before .cuts-about .ensures))))
+    let g = along-sited (a .pre .1 .0) i (h .along .ensures) in
+    let o = along-own (a .pre .1 .0) i (h .along .ensures) in
+    let b = c .before .before .cuts-about .ensures in
+    let s = a .pre .0 .sized in
+    ⊎-elim (λ w. rw (w .1) (search-idle _ (c .before .is-idle .ensures (w .0 .taken) .is (a .args .s) (a .args .cuts .now) _ s g o b)))
     (λ w. rw (w .1) search-starts)
     (c .if1 .came)
 
@@ -88,14 +91,21 @@ slice-reshare-prefix-is-violated :
     tie.Need-slice-reshare-prefix-is-violated Inv-search μ-search Inv-loop μ-loop
 slice-reshare-prefix-is-violated c =
     let a = c .before .before .before .before .before .before .before .before .before .before .before .before in
-    omega (arith, c .before .before .before .before .before .before .before .before .loop .inv .coded .long, line-fits (a .pre .1 .0) (a .pre .0 .sized), c .before .before .before .before .before .before .before .before .before .line-length .ensures .0)
+    omega (
+      arith,
+      c .before .before .before .before .before .before .before .before .loop .inv .coded .long,
+      line-fits (a .pre .1 .0) (a .pre .0 .sized),
+      c .before .before .before .before .before .before .before .before .before .line-length .ensures .0,
+    )
 
 slice-aggregate-is-violated :
     tie.Need-slice-aggregate-is-violated Inv-search μ-search Inv-loop μ-loop
 slice-aggregate-is-violated c =
     let a = c .before .before .before .before .before .before .before .before .before .before .before .before .before in
     let f = line-fits (a .pre .1 .0) (a .pre .0 .sized) in
-    sym (length-take-le _ _ (omega (arith, c .before .before .before .before .before .before .before .before .before .loop .inv .coded .long, c .before .before .before .before .before .before .before .before .before .before .line-length .ensures .0)))
+    let w = c .before .before .before .before .before .before .before .before .before .loop .inv .coded .long in
+    let e = c .before .before .before .before .before .before .before .before .before .before .line-length .ensures .0 in
+    sym (length-take-le _ _ (omega arith))
 
 sub-is-violated : tie.Need-sub-is-violated Inv-search μ-search Inv-loop μ-loop
 sub-is-violated c = omega (arith, c .before .before .before .search .inv .low)
@@ -139,7 +149,12 @@ search-again c =
 slice-write-state : tie.Need-slice-write-state Inv-search μ-search Inv-loop μ-loop
 slice-write-state c =
     let a = c .before .before .before .before .before .before .before .before .before .before .before in
-    omega (arith, c .before .before .before .before .before .before .before .loop .inv .coded .long, line-fits (a .pre .1 .0) (a .pre .0 .sized), c .before .before .before .before .before .before .before .before .line-length .ensures .0)
+    omega (
+      arith,
+      c .before .before .before .before .before .before .before .loop .inv .coded .long,
+      line-fits (a .pre .1 .0) (a .pre .0 .sized),
+      c .before .before .before .before .before .before .before .before .line-length .ensures .0,
+    )
 
 add-moved : tie.Need-add-moved Inv-search μ-search Inv-loop μ-loop
 add-moved c =
@@ -184,11 +199,8 @@ returns c =
     let l = c .before .before in
     let a = l .before .before .before in
     let i = c .before .loop .inv in
-    let b = blockOf (a .args .s) (a .args .samples .now) (a .args .cuts .now) in
-    let e : a .args .q .own + c .before .loop .x ≡ a .args .q .own + l .line-length .result = omega (arith, i .high) in (
-      subst (λ (k : ℕ). Coded b k (c .before .loop .state)) (e ∙ ap (λ (k : ℕ). a .args .q .own + k) (l .line-length .ensures .0)) (i .coded),
-      i .counted ∙ ap (λ (k : ℕ). movedCount (codes b k)) (e ∙ ap (λ (k : ℕ). a .args .q .own + k) (l .line-length .ensures .0)),
-    )
+    let e : c .before .loop .x ≡ l .line-length .result = omega (arith, i .high) in
+    walked-whole _ i (e ∙ l .line-length .ensures .0)
 
 pub warp-line-spec : {M : Type 1} → statement M
 warp-line-spec =
