@@ -20,7 +20,7 @@ use Rattle.lattice.specs.Direction.{Code}
 use Rattle.lattice.specs.Edge.{near, neighbour, edgeByte}
 use Rattle.lattice.specs.Site.{Sited, index}
 use Rattle.lattice.proofs.Sites.{by-direction}
-use Rattle.moving.specs.Block.{Block, blockOf, sample, cutByte, Tabled}
+use Rattle.moving.specs.Block.{Block, blockOf, sample, cutByte}
 use Rattle.moving.specs.Violation.{violates}
 use Rattle.moving.specs.Moving.{live, violatedAlong, violatedBy, choice, codes}
 use Rattle.filling.specs.Fill.{movedCount}

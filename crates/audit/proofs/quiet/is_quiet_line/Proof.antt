@@ -4,7 +4,7 @@ use mathlib.Core.Path.{sym, subst}
 use lib.Dec.{T}
 use Rattle.lattice.proofs.Bounds.{points-small}
 use Rattle.audit.proofs.Points.{sited}
-use Rattle.audit.proofs.Lines.{line-stands, line-fits}
+use Rattle.audit.proofs.Lines.{line-stands}
 use Rattle.audit.proofs.Level.{ranges-small, level-fine}
 use borrow.Author.Needs.{needs}
 use Rattle.audit.proofs.quiet.is_quiet_line.Statement.{statement}

@@ -1,8 +1,7 @@
 -- The loop's invariant: the codes before p stand in the table, whatever block they are of. Assumes nothing.
 use native.Mathlib.Omega.{arith}
-use Prim.Native.Nat.{ℕ, _-_, _≤_, _<_}
-use mathlib.Core.Path.{_≡_, refl, subst, _∙_}
-use mathlib.Core.List.{List}
+use Prim.Native.Nat.{ℕ, _-_, _≤_}
+use mathlib.Core.Path.{_≡_, refl, subst}
 use lib.ListN.{length, length-set}
 use Rattle.moving.specs.Block.{Block}
 use Rattle.warp.specs.Quick.{IdleFrom, Coded}

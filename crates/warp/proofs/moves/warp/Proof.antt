@@ -1,9 +1,8 @@
 -- The loop's invariant: the points before p are done, and q starts the line at p. Assumes nothing.
 use native.Mathlib.Omega.{arith}
 use Prim.Native.Nat.{_+_, _-_}
-use mathlib.Core.Path.{_≡_, refl, sym, _∙_}
+use mathlib.Core.Path.{refl, sym, _∙_}
 use mathlib.Core.Logic.{⊎-elim}
-use lib.ListN.{length, take}
 use Rattle.basics.specs.Lists.{count}
 use Rattle.lattice.proofs.Bounds.{points-small}
 use Rattle.moving.specs.Block.{blockOf}
@@ -12,7 +11,7 @@ use Rattle.filling.specs.Fill.{movedCount}
 use Rattle.audit.proofs.Points.{points-some}
 use Rattle.audit.proofs.Lines.{line-on, line-first}
 use Rattle.warp.proofs.Codes.{Warped, warped-whole, counted-few}
-use Rattle.warp.proofs.Passed.{Passed, line-here, coded-here, fits, after, passed-idle, passed-walked, walked-few}
+use Rattle.warp.proofs.Passed.{line-here, coded-here, fits, after, passed-idle, passed-walked, walked-few}
 use Rattle.warp.proofs.moves.warp.Statement.{statement}
 use Rattle.warp.proofs.moves.warp.Tie as tie
 

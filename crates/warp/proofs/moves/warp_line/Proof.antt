@@ -1,9 +1,9 @@
 -- Every point's search is the definition's, and the table grows by its code. Assumes nothing.
 use native.Mathlib.Omega.{arith}
-use Prim.Native.Nat.{ℕ, _+_, _-_, _<_}
-use mathlib.Core.Path.{_≡_, refl, sym, ap, subst, _∙_}
+use Prim.Native.Nat.{_+_, _-_, _<_}
+use mathlib.Core.Path.{_≡_, sym, _∙_}
 use mathlib.Core.Logic.{⊎-elim}
-use lib.ListN.{length, take}
+use lib.ListN.{take}
 use lib.Seq.{length-take-le}
 use Rattle.lattice.specs.Axis.{along-x}
 use Rattle.lattice.specs.Counts.{grid}
@@ -11,16 +11,12 @@ use Rattle.lattice.specs.Direction.{Code}
 use Rattle.lattice.proofs.Bounds.{points-small}
 use Rattle.lattice.proofs.Sites.{numbers-small}
 use Rattle.moving.specs.Block.{blockOf}
-use Rattle.moving.specs.Moving.{codes}
-use Rattle.filling.specs.Fill.{movedCount}
 use Rattle.audit.proofs.Points.{sited}
 use Rattle.audit.proofs.Lines.{line-stands, line-fits}
-use Rattle.warp.specs.Quick.{Coded}
 use Rattle.warp.proofs.Sites.{along-sited, along-own}
 use Rattle.warp.proofs.Codes.{Searching, search-starts, search-on, search-ends, search-finds, at-point}
 use Rattle.warp.proofs.Codes.{Walked, walked-starts, walked-next, walked-whole, counted-few, count-move, count-stay}
 use Rattle.warp.proofs.Idle.{search-idle}
-use borrow.Author.Needs.{needs}
 use Rattle.warp.proofs.moves.warp_line.Statement.{statement}
 use Rattle.warp.proofs.moves.warp_line.Tie as tie
 
