@@ -22,8 +22,8 @@ use Rattle.audit.specs.Inner.{endsOf, endsAt, Level}
 use Rattle.audit.specs.Lines.{Line, lineAt}
 use Rattle.audit.specs.Outside.{hasSign}
 use Rattle.audit.proofs.Labels.{same-sign}
-use Rattle.audit.proofs.Points.{Stands, stands, sited}
-use Rattle.audit.proofs.Lines.{line-stands, line-at, asked-line}
+use Rattle.audit.proofs.Points.{stands, sited}
+use Rattle.audit.proofs.Lines.{line-stands, asked-line}
 use Rattle.audit.proofs.Table.{crosses-cuts}
 use Rattle.audit.proofs.Reach.{start, crossing-is, numbers-sited}
 use Rattle.audit.proofs.CornerEnds.{down}

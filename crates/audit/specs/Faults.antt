@@ -9,7 +9,8 @@ use lib.Dec.{eqb, ltb}
 use Rattle.basics.specs.Choice.{if_then_else_}
 use Rattle.lattice.specs.declared.Sizes.{Sizes}
 use Rattle.lattice.specs.declared.Site.{Site}
-use Rattle.lattice.specs.Counts.{Sized, points}
+use Rattle.lattice.specs.Axis.{along-x}
+use Rattle.lattice.specs.Counts.{Sized, grid, points}
 use Rattle.lattice.specs.Site.{siteOf}
 use Rattle.moving.specs.Block.{Block, cutByte}
 use Rattle.filling.specs.Check.{crosses, cutFault, firstCut}
@@ -58,6 +59,10 @@ mustAt b o = crosses b (o / 7) (o % 7)
 
 abbrev pub tableFault : Block → ℕ → ℕ → Fault
 tableFault b = firstFault (mustAt b) (cutByte b)
+
+-- the same of the line of points that starts at q
+abbrev pub lineFault : Block → Site → Fault
+lineFault b q = tableFault b (7 * grid (b .sizes) (q .kind) along-x) (7 * q .own)
 
 -- the same of the seven bytes of one point
 abbrev pub sevenFault : List Bool → List ℕ → Fault

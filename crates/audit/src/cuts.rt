@@ -10,12 +10,10 @@ use lattice::counts;
 use lattice::numbers;
 ghost use mathlib.Core.Path.{_≡_};
 ghost use mathlib.Core.List.{[]};
-ghost use Prim.Native.Nat.{_*_, _≤_};
+ghost use Prim.Native.Nat.{_≤_};
 ghost use lib.ListN.{length};
-ghost use Rattle.lattice.specs.Axis.{along-x};
-ghost use Rattle.lattice.specs.Counts.{grid};
 ghost use Rattle.moving.specs.Block.{blockOf, Tabled};
-ghost use Rattle.audit.specs.Faults.{Asked, CutAnswer, crossingsAt, offsetOf, sevenFault, tableFault};
+ghost use Rattle.audit.specs.Faults.{Asked, CutAnswer, crossingsAt, offsetOf, sevenFault, lineFault};
 ghost use Rattle.audit.specs.Lines.{Line};
 
 // The first byte at fault of a point's seven, which are lent to it. Most points need only a glance.
@@ -36,7 +34,7 @@ fn site_fault(s: Sizes, samples: &[i16], bytes: &[u8], q: Site) -> Fault
 fn line_search(s: Sizes, samples: &[i16], cuts: &[u8], q: Site) -> Fault
     requires { ⌜ Tabled (blockOf s (now samples) (now cuts)) ⌝ }
     requires { ⌜ Line s (q .own) q ⌝ }
-    ensures { λ r. ⌜ r ≡ tableFault (blockOf s (now (samples .entry)) (now (cuts .entry))) (7 * grid s (q .kind) along-x) (7 * q .own) ⌝ }
+    ensures { λ r. ⌜ r ≡ lineFault (blockOf s (now (samples .entry)) (now (cuts .entry))) q ⌝ }
 {
     let kind = q.kind;
     let own = q.own;
@@ -58,7 +56,7 @@ fn line_search(s: Sizes, samples: &[i16], cuts: &[u8], q: Site) -> Fault
 fn line_fault(s: Sizes, samples: &[i16], cuts: &[u8], q: Site) -> Fault
     requires { ⌜ Tabled (blockOf s (now samples) (now cuts)) ⌝ }
     requires { ⌜ Line s (q .own) q ⌝ }
-    ensures { λ r. ⌜ r ≡ tableFault (blockOf s (now (samples .entry)) (now (cuts .entry))) (7 * grid s (q .kind) along-x) (7 * q .own) ⌝ }
+    ensures { λ r. ⌜ r ≡ lineFault (blockOf s (now (samples .entry)) (now (cuts .entry))) q ⌝ }
 {
     if quiet::is_quiet_line(s, samples, cuts, q) {
         return Fault::Fine;

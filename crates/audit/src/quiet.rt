@@ -10,16 +10,15 @@ use lattice::edges;
 ghost use mathlib.Core.Path.{_≡_};
 ghost use mathlib.Core.Bool.{true, false};
 ghost use mathlib.Core.List.{[]};
-ghost use Prim.Native.Nat.{ℕ, _*_, _<_, _≤_};
+ghost use Prim.Native.Nat.{ℕ, _<_, _≤_};
 ghost use lib.IntN.{pos};
 ghost use lib.ListN.{length, getD};
-ghost use Rattle.lattice.specs.Axis.{along-x};
-ghost use Rattle.lattice.specs.Counts.{Sized, grid};
+ghost use Rattle.lattice.specs.Counts.{Sized};
 ghost use Rattle.lattice.specs.Site.{Sited};
 ghost use Rattle.moving.specs.Block.{blockOf, Tabled};
 ghost use Rattle.moving.specs.Label.{labelOf, opposed};
 ghost use Rattle.audit.specs.declared.Fault.the-variants.{Fine};
-ghost use Rattle.audit.specs.Faults.{Asked, crossingsAt, sevenFault, tableFault};
+ghost use Rattle.audit.specs.Faults.{Asked, crossingsAt, sevenFault, lineFault};
 ghost use Rattle.audit.specs.Inner.{Inner, endsAt, Level};
 ghost use Rattle.audit.specs.Lines.{Line};
 
@@ -127,7 +126,7 @@ fn is_level(plus: bool, samples: &[i16], starts: [usize; 5], m: usize) -> bool
 pub fn is_quiet_line(s: Sizes, samples: &[i16], cuts: &[u8], q: Site) -> bool
     requires { ⌜ Tabled (blockOf s (now samples) (now cuts)) ⌝ }
     requires { ⌜ Line s (q .own) q ⌝ }
-    ensures { λ r. ⌜ (r ≡ true → tableFault (blockOf s (now (samples .entry)) (now (cuts .entry))) (7 * grid s (q .kind) along-x) (7 * q .own) ≡ Fine) ⌝ }
+    ensures { λ r. ⌜ (r ≡ true → lineFault (blockOf s (now (samples .entry)) (now (cuts .entry))) q ≡ Fine) ⌝ }
 {
     let kind = q.kind;
     let own = q.own;

@@ -25,7 +25,7 @@ use Rattle.moving.specs.Moving.{labelAfter, live, violatedAlong, violatedBy, ch
 use Rattle.moving.proofs.Moved.{codes-length}
 use Rattle.filling.specs.Fill.{movedCount}
 use Rattle.audit.specs.Lines.{Line}
-use Rattle.warp.specs.Quick.{Coded}
+use Rattle.warp.specs.Quick.{Coded, Added}
 
 -- an edge's byte is in the table
 pub byte-lt : (n p c q : ℕ) → Code c → p < n → q < n → edgeByte p c q < 7 * n
@@ -160,6 +160,13 @@ module _ (b : Block) where
           counted-next (own + x) c (rw (w .coded .done) at e),
           ap (λ (k : ℕ). movedCount (codes b k)) g,
         );
+      }
+
+  pub walked-whole : {own m n : ℕ} {state : List ℕ} {moved x : ℕ} → Walked own m state moved x → x ≡ n → Added b own n state moved
+  walked-whole {own} {state = state} w e =
+      record {
+        coded = subst (λ (k : ℕ). Coded b (own + k) state) e (w .coded);
+        counted = w .counted ∙ ap (λ (k : ℕ). movedCount (codes b (own + k))) e;
       }
 
   -- the points before p are done, and the line from p on is the next

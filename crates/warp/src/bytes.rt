@@ -19,7 +19,7 @@ ghost use Rattle.lattice.specs.Edge.{near, edgeByte};
 ghost use Rattle.lattice.specs.Site.{Sited, index};
 ghost use Rattle.moving.specs.Block.{blockOf};
 ghost use Rattle.audit.specs.Lines.{Line};
-ghost use Rattle.warp.specs.Quick.{startBack, startAt, Uncut, Idle};
+ghost use Rattle.warp.specs.Quick.{startBack, startAt, About, Uncut, IdleFrom};
 
 // So many numbers before p, or 0.
 fn before(p: usize, stride: usize) -> usize
@@ -86,7 +86,7 @@ fn byte_of(s: Sizes, q: Site, code: usize) -> usize
 }
 
 // The cut byte of the edge by a code, if the edge exists.
-pub fn cut_by(s: Sizes, cuts: &[u8], q: Site, code: usize) -> u8
+fn cut_by(s: Sizes, cuts: &[u8], q: Site, code: usize) -> u8
     requires { ⌜ Sized s ⌝ }
     requires { ⌜ Sited s q ⌝ }
     requires { ⌜ Code code ⌝ }
@@ -99,20 +99,28 @@ pub fn cut_by(s: Sizes, cuts: &[u8], q: Site, code: usize) -> u8
     0
 }
 
-// No cut on the edges that end at a point.
-pub fn ends_no_cut(s: Sizes, cuts: &[u8], q: Site) -> bool
+// The cut bytes of a point's fourteen edges, in code order.
+pub fn cuts_about(s: Sizes, cuts: &[u8], q: Site) -> [u8; 14]
     requires { ⌜ Sized s ⌝ }
     requires { ⌜ Sited s q ⌝ }
-    ensures { λ r. ⌜ (r ≡ true → (d : ℕ) → d < 7 → (e : ℕ) → near s (q .kind) (index q) (d + 8) ≡ At e → getD (now (cuts .entry)) (edgeByte (q .own) (d + 8) e) 0 ≡ 0) ⌝ }
+    ensures { λ r. ⌜ About s (now (cuts .entry)) q r ⌝ }
 {
-    let along_x = cut_by(s, cuts, q, 8) as usize;
-    let along_y = cut_by(s, cuts, q, 9) as usize;
-    let along_z = cut_by(s, cuts, q, 10) as usize;
-    let first = cut_by(s, cuts, q, 11) as usize;
-    let second = cut_by(s, cuts, q, 12) as usize;
-    let third = cut_by(s, cuts, q, 13) as usize;
-    let fourth = cut_by(s, cuts, q, 14) as usize;
-    along_x + along_y + along_z + (first + second + third + fourth) == 0
+    [
+        cut_by(s, cuts, q, 1),
+        cut_by(s, cuts, q, 2),
+        cut_by(s, cuts, q, 3),
+        cut_by(s, cuts, q, 4),
+        cut_by(s, cuts, q, 5),
+        cut_by(s, cuts, q, 6),
+        cut_by(s, cuts, q, 7),
+        cut_by(s, cuts, q, 8),
+        cut_by(s, cuts, q, 9),
+        cut_by(s, cuts, q, 10),
+        cut_by(s, cuts, q, 11),
+        cut_by(s, cuts, q, 12),
+        cut_by(s, cuts, q, 13),
+        cut_by(s, cuts, q, 14),
+    ]
 }
 
 // No cut starts at any of m + 1 points from one on.
@@ -128,7 +136,7 @@ fn is_uncut(cuts: &[u8], from: usize, m: usize) -> bool
 pub fn is_idle_line(s: Sizes, cuts: &[u8], q: Site) -> bool
     requires { ⌜ Sized s ⌝ }
     requires { ⌜ Line s (q .own) q ⌝ }
-    ensures { λ r. ⌜ (r ≡ true → (samples : List ℤ) (x : ℕ) → x < grid s (q .kind) along-x → Idle (blockOf s samples (now (cuts .entry))) (q .own + x)) ⌝ }
+    ensures { λ r. ⌜ (r ≡ true → (a : List ℤ) → IdleFrom (blockOf s a (now (cuts .entry))) (q .own) (q .own + grid s (q .kind) along-x)) ⌝ }
 {
     let kind = q.kind;
     let m = walk::line_length(s, kind);

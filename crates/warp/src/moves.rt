@@ -1,7 +1,6 @@
 // Which points move, and by which code.
 use crate::bytes;
 use crate::violation;
-use audit::ranges;
 use audit::walk;
 use lattice::Near;
 use lattice::Site;
@@ -12,20 +11,21 @@ use lattice::numbers;
 ghost use mathlib.Core.Path.{_≡_};
 ghost use mathlib.Core.Bool.{true};
 ghost use mathlib.Core.List.{List};
-ghost use Prim.Native.Nat.{ℕ, _+_, _<_, _≤_};
-ghost use lib.ListN.{length};
+ghost use Prim.Native.Nat.{ℕ, _<_, _≤_};
+ghost use lib.ListN.{length, getD};
 ghost use Rattle.lattice.specs.declared.Sizes.{Sizes};
 ghost use Rattle.lattice.specs.declared.Near.the-variants.{At};
 ghost use Rattle.lattice.specs.Axis.{along-x};
 ghost use Rattle.lattice.specs.Counts.{grid, points};
 ghost use Rattle.lattice.specs.Direction.{Code};
-ghost use Rattle.lattice.specs.Site.{Sited};
+ghost use Rattle.lattice.specs.Edge.{near, edgeByte};
+ghost use Rattle.lattice.specs.Site.{Sited, index};
 ghost use Rattle.moving.specs.Block.{Block, blockOf, Tabled};
 ghost use Rattle.moving.specs.Label.{isZero};
-ghost use Rattle.moving.specs.Moving.{labelAfter, violatedAlong, violatedBy, codes, stateOf};
+ghost use Rattle.moving.specs.Moving.{labelAfter, violatedAlong, violatedBy, stateOf};
 ghost use Rattle.filling.specs.Fill.{movedCount};
 ghost use Rattle.audit.specs.Lines.{Line};
-ghost use Rattle.warp.specs.Quick.{Idle, Coded};
+ghost use Rattle.warp.specs.Quick.{IdleFrom, IdleBy, Coded, Added};
 
 // A point's label is zero: its sample is, or it is among the points done and has moved. Sizes and
 // cuts do not enter.
@@ -88,14 +88,23 @@ fn is_violated_far(
     }
 }
 
-// The same, asking first whether the byte violates at all: then few neighbours are looked up.
-fn is_violated(s: Sizes, samples: &[i16], cuts: &[u8], done: &[u8], q: Site, code: usize) -> bool
+// The same for a byte t that is the edge's if there is one, asking first whether it violates at all:
+// then few neighbours are looked up.
+fn is_violated(
+    s: Sizes,
+    samples: &[i16],
+    cuts: &[u8],
+    done: &[u8],
+    q: Site,
+    code: usize,
+    t: u8,
+) -> bool
     requires { ⌜ Tabled (blockOf s (now samples) (now cuts)) ⌝ }
     requires { ⌜ Code code ⌝ }
     requires { ⌜ Sited s q ⌝ }
+    requires { ⌜ ((e : ℕ) → near s (q .kind) (index q) code ≡ At e → t ≡ getD (now cuts) (edgeByte (q .own) code e) 0) ⌝ }
     ensures { λ r. ⌜ r ≡ violatedBy (blockOf s (now (samples .entry)) (now (cuts .entry))) (now (done .entry)) (q .own) code ⌝ }
 {
-    let t = bytes::cut_by(s, cuts, q, code);
     if violation::violates(code, t) {
         return is_violated_far(s, samples, cuts, done, q, code);
     }
@@ -103,20 +112,19 @@ fn is_violated(s: Sizes, samples: &[i16], cuts: &[u8], done: &[u8], q: Site, cod
 }
 
 // Nothing has to be searched: the sample is zero, or no cut stands on any of the fourteen edges.
-fn is_idle(s: Sizes, samples: &[i16], cuts: &[u8], q: Site) -> bool
-    requires { ⌜ Tabled (blockOf s (now samples) (now cuts)) ⌝ }
-    requires { ⌜ Sited s q ⌝ }
-    ensures { λ r. ⌜ (r ≡ true → Idle (blockOf s (now (samples .entry)) (now (cuts .entry))) (q .own)) ⌝ }
+fn is_idle(samples: &[i16], p: usize, about: [u8; 14]) -> bool
+    requires { ⌜ (p < length (now samples)) × (length (now samples) ≤ 1000000) ⌝ }
+    ensures { λ r. ⌜ (r ≡ true → IdleBy (now (samples .entry)) p about) ⌝ }
 {
-    let p = q.own;
     if samples[p] == 0 {
         return true;
     }
-    let at = 7 * p;
-    if ranges::is_blank(cuts, at, at + 7) {
-        return bytes::ends_no_cut(s, cuts, q);
+    for k in 0..14 {
+        if about[k] != 0 {
+            return false;
+        }
     }
-    false
+    true
 }
 
 // The codes of a line of points, where the codes before it stand in the table; the search of a point
@@ -125,8 +133,7 @@ fn warp_line(s: Sizes, samples: &[i16], cuts: &[u8], state: &mut [u8], q: Site) 
     requires { ⌜ Tabled (blockOf s (now samples) (now cuts)) ⌝ }
     requires { ⌜ Line s (q .own) q ⌝ }
     requires { ⌜ Coded (blockOf s (now samples) (now cuts)) (q .own) (now state) ⌝ }
-    ensures { λ r. ⌜ Coded (blockOf s (now (samples .entry)) (now (cuts .entry))) (q .own + grid s (q .kind) along-x) (now (state .exit)) ⌝ }
-    ensures { λ r. ⌜ r + movedCount (codes (blockOf s (now (samples .entry)) (now (cuts .entry))) (q .own)) ≡ movedCount (codes (blockOf s (now (samples .entry)) (now (cuts .entry))) (q .own + grid s (q .kind) along-x)) ⌝ }
+    ensures { λ r. ⌜ Added (blockOf s (now (samples .entry)) (now (cuts .entry))) (q .own) (grid s (q .kind) along-x) (now (state .exit)) r ⌝ }
 {
     let kind = q.kind;
     let own = q.own;
@@ -135,15 +142,17 @@ fn warp_line(s: Sizes, samples: &[i16], cuts: &[u8], state: &mut [u8], q: Site) 
     for x in 0..m {
         let p = own + x;
         let here = walk::along(q, x);
+        let about = bytes::cuts_about(s, cuts, here);
         let mut code: u8 = 1;
-        if is_idle(s, samples, cuts, here) {
+        if is_idle(samples, p, about) {
             code = 15;
         }
         let found = 'search: loop {
             if 14 < code {
                 break 'search 0;
             }
-            if is_violated(s, samples, cuts, &state[..p], here, code as usize) {
+            let c = code as usize;
+            if is_violated(s, samples, cuts, &state[..p], here, c, about[c - 1]) {
                 break 'search code;
             }
             code += 1;
@@ -159,7 +168,7 @@ fn warp_line(s: Sizes, samples: &[i16], cuts: &[u8], state: &mut [u8], q: Site) 
 // The codes of points that do not move.
 fn rest(state: &mut [u8], from: usize, to: usize)
     requires { ⌜ (from ≤ to) × (to ≤ length (now state)) ⌝ }
-    ensures { λ r. ⌜ ((b : Block) → Coded b from (now (state .entry)) → ((p : ℕ) → from ≤ p → p < to → Idle b p) → Coded b to (now (state .exit))) ⌝ }
+    ensures { λ r. ⌜ ((b : Block) → Coded b from (now (state .entry)) → IdleFrom b from to → Coded b to (now (state .exit))) ⌝ }
 {
     for p in from..to {
         state[p] = 0;

@@ -4,7 +4,7 @@ use mathlib.Core.Path.{sym, subst}
 use lib.Dec.{T}
 use Rattle.lattice.proofs.Bounds.{points-small}
 use Rattle.audit.proofs.Points.{sited}
-use Rattle.audit.proofs.Lines.{line-stands, line-fits}
+use Rattle.audit.proofs.Lines.{line-stands}
 use Rattle.audit.proofs.Level.{ranges-small, level-fine}
 use borrow.Author.Needs.{needs}
 use Rattle.audit.proofs.quiet.is_quiet_line.Statement.{statement}
@@ -76,7 +76,8 @@ returns-2 c =
     let l = c .before .before .before .before .before .before in
     let a = l .before .before in
     λ t. level-fine (a .args .s) _ (a .args .q) (a .pre .1) (a .pre .0 .sized) (a .pre .0 .samples-long) _ _ _ _ (l .line-length .ensures .0)
-    (c .before .before .before .ends .ensures) (c .before .before .before .before .before .is-blank .ensures (c .before .before .before .before .if1 .taken))
+    (c .before .before .before .ends .ensures)
+    (c .before .before .before .before .before .is-blank .ensures (c .before .before .before .before .if1 .taken))
     (c .is-level2 .ensures t)
 
 returns-3 : tie.Need-returns-3

@@ -18,8 +18,10 @@ has-sign-requires c κs = search needs
 returns : tie.Need-returns
 returns c =
     let a = c .before .before .before .args in
-    λ t p l u. ap (λ (s : Bool). hasSign s (getD (a .samples .now) p (pos 0))) (c .before .before .if1 .taken)
-    ∙ c .before .highest .ensures (ap (λ (s : Bool). hasSign s (c .before .highest .result)) (sym (c .before .before .if1 .taken)) ∙ sym (sign-handed _ (c .before .highest .result) (c .before .highest .ok)) ∙ sym (c .has-sign .ensures) ∙ t) p l u
+    let o = c .before .highest in
+    let e = c .before .before .if1 .taken in
+    λ t p l u. ap (λ (s : Bool). hasSign s (getD (a .samples .now) p (pos 0))) e
+    ∙ o .ensures (ap (λ (s : Bool). hasSign s (o .result)) (sym e) ∙ sym (sign-handed _ (o .result) (o .ok)) ∙ sym (c .has-sign .ensures) ∙ t) p l u
 
 lowest-requires : tie.Need-lowest-requires
 lowest-requires c κs = search needs
@@ -30,8 +32,10 @@ has-sign-requires-2 c κs = search needs
 returns-2 : tie.Need-returns-2
 returns-2 c =
     let a = c .before .before .before .args in
-    λ t p l u. ap (λ (s : Bool). hasSign s (getD (a .samples .now) p (pos 0))) (c .before .before .if1 .left)
-    ∙ c .before .lowest .ensures (ap (λ (s : Bool). hasSign s (c .before .lowest .result)) (sym (c .before .before .if1 .left)) ∙ sym (sign-handed _ (c .before .lowest .result) (c .before .lowest .ok)) ∙ sym (c .has-sign2 .ensures) ∙ t) p l u
+    let o = c .before .lowest in
+    let e = c .before .before .if1 .left in
+    λ t p l u. ap (λ (s : Bool). hasSign s (getD (a .samples .now) p (pos 0))) e
+    ∙ o .ensures (ap (λ (s : Bool). hasSign s (o .result)) (sym e) ∙ sym (sign-handed _ (o .result) (o .ok)) ∙ sym (c .has-sign2 .ensures) ∙ t) p l u
 
 pub has-some-spec : {M : Type 1} → statement M
 has-some-spec =

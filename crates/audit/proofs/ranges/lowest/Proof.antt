@@ -37,9 +37,10 @@ loop-less c = omega arith
 
 loop-again : tie.Need-loop-again Inv-loop μ-loop
 loop-again c =
+    let x = c .before .x .given in
     let i = c .before .before .before .loop in
-    ⊎-elim (λ w. lower _ _ _ (i .least) _ (c .before .x .given) (i .inv) (w .0 .taken) (w .1)) (λ w. not-lower _ _ _ (i .least) _ (c .before .x .given) (i .inv) (w .0 .left) (w .1))
-    (c .if1 .came)
+    ⊎-elim (λ w. lower _ _ _ (i .least) _ x (i .inv) (w .0 .taken) (w .1))
+    (λ w. not-lower _ _ _ (i .least) _ x (i .inv) (w .0 .left) (w .1)) (c .if1 .came)
 
 returns : tie.Need-returns Inv-loop μ-loop
 returns c = none-whole (c .loop-test .left) (c .before .before .lesser .ensures .2) (c .before .loop .inv)

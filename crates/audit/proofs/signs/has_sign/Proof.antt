@@ -1,5 +1,5 @@
 -- One test a sign. Assumes nothing.
-use mathlib.Core.Path.{_≡_, sym, ap, _∙_}
+use mathlib.Core.Path.{sym, ap, _∙_}
 use mathlib.Core.Bool.{Bool}
 use Rattle.audit.specs.Outside.{hasSign}
 use Rattle.audit.proofs.Labels.{plus-test, minus-test}

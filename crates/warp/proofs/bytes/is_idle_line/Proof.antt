@@ -25,19 +25,25 @@ is-uncut-requires-2 : tie.Need-is-uncut-requires-2
 is-uncut-requires-2 c κs = search needs
 
 start-of-requires-3 : tie.Need-start-of-requires-3
-start-of-requires-3 c κs = let a = c .before .before .before .before .before .before .before .before in (a .pre .0, (sited (line-stands (a .pre .1)), omega arith))
+start-of-requires-3 c κs =
+    let c7 = c .before .before .before .before .before .before .before in
+    let a = c7 .before in (a .pre .0, (sited (line-stands (a .pre .1)), omega arith))
 
 is-uncut-requires-3 : tie.Need-is-uncut-requires-3
 is-uncut-requires-3 c κs = search needs
 
 start-of-requires-4 : tie.Need-start-of-requires-4
-start-of-requires-4 c κs = let a = c .before .before .before .before .before .before .before .before .before .before .before in (a .pre .0, (sited (line-stands (a .pre .1)), omega arith))
+start-of-requires-4 c κs =
+    let c7 = c .before .before .before .before .before .before .before in
+    let a = c7 .before .before .before .before in (a .pre .0, (sited (line-stands (a .pre .1)), omega arith))
 
 is-uncut-requires-4 : tie.Need-is-uncut-requires-4
 is-uncut-requires-4 c κs = search needs
 
 start-of-requires-5 : tie.Need-start-of-requires-5
-start-of-requires-5 c κs = let a = c .before .before .before .before .before .before .before .before .before .before .before .before .before .before in (a .pre .0, (sited (line-stands (a .pre .1)), omega arith))
+start-of-requires-5 c κs =
+    let c7 = c .before .before .before .before .before .before .before in
+    let a = c7 .before .before .before .before .before .before .before in (a .pre .0, (sited (line-stands (a .pre .1)), omega arith))
 
 is-uncut-requires-5 : tie.Need-is-uncut-requires-5
 is-uncut-requires-5 c κs = search needs

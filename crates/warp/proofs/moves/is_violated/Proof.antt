@@ -7,9 +7,6 @@ use borrow.Author.Needs.{needs}
 use Rattle.warp.proofs.moves.is_violated.Statement.{statement}
 use Rattle.warp.proofs.moves.is_violated.Tie as tie
 
-cut-by-requires : tie.Need-cut-by-requires
-cut-by-requires c κs = search needs
-
 violates-requires : tie.Need-violates-requires
 violates-requires c κs = search needs
 
@@ -21,12 +18,10 @@ returns c = search needs
 
 returns-2 : tie.Need-returns-2
 returns-2 c =
-    let a = c .before .before .before .before .before in
+    let a = c .before .before .before .before in
+    let near = site-near (a .args .s) (a .args .q) (a .pre .0 .sized) (a .pre .1 .1 .0) (a .args .code) in
     sym (unviolated _ _ _ _ (λ e n.
-    ap (violates (a .args .code)) (sym (c .before .before .cut-by .ensures e (sym (site-near (a .args .s) (a .args .q) (a .pre .0 .sized) (a .pre .1 .1) (a .args .code)) ∙ n)))
-    ∙ sym (c .before .violates .ensures) ∙ c .if1 .left))
+    ap (violates (a .args .code)) (sym (a .pre .1 .1 .1 e (sym near ∙ n))) ∙ sym (c .before .violates .ensures) ∙ c .if1 .left))
 
 pub is-violated-spec : {M : Type 1} → statement M
-is-violated-spec =
-    tie.close
-    (tie.spec cut-by-requires violates-requires is-violated-far-requires returns returns-2)
+is-violated-spec = tie.close (tie.spec violates-requires is-violated-far-requires returns returns-2)
