@@ -1,6 +1,6 @@
-//! Writes crates/cases/specs/Blocks.antt to standard output: calls of filling
+//! Writes crates/casebook/specs/Blocks.antt to standard output: calls of filling
 //! and of the place of an id, each with what the reference answers and leaves
-//! in the lent tables. `cargo run > ../../../crates/cases/specs/Blocks.antt`
+//! in the lent tables. `cargo run > ../../../crates/casebook/specs/Blocks.antt`
 
 mod antt;
 mod calls;
@@ -109,10 +109,10 @@ mod tests {
 
     #[test]
     fn the_file_is_what_this_writes() {
-        let file = include_str!("../../../../crates/cases/specs/Blocks.antt");
+        let file = include_str!("../../../../crates/casebook/specs/Blocks.antt");
         assert!(
             file == written(),
-            "write crates/cases/specs/Blocks.antt anew"
+            "write crates/casebook/specs/Blocks.antt anew"
         );
     }
 }
