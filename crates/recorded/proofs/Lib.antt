@@ -1,0 +1,4 @@
+pub mod Difference
+pub mod Turns
+pub mod Fits
+pub mod Composed
