@@ -2,3 +2,4 @@ pub mod Difference
 pub mod Turns
 pub mod Fits
 pub mod Composed
+pub mod Asking

@@ -2,6 +2,7 @@
 use crate::Lengths;
 use crate::heads;
 use crate::tables;
+use crate::wide;
 use blockfile::numbers;
 use blockfile::samples as sampled;
 use filling::Filled;
@@ -11,12 +12,6 @@ ghost use lib.ListN.{length, replicate};
 ghost use Rattle.filling.specs.Fill.{fill};
 ghost use Rattle.blockfile.specs.Format.{byteAt, fourAt, samplesFrom};
 ghost use Rattle.recorded.specs.Fills.{cutsAt, stateAt, idsAt, sameAnswer, blockWith, replayed, statedTables, agreesWith, fillAgrees};
-
-fn wide(b: u8) -> u32
-    ensures { λ r. ⌜ r ≡ b ⌝ }
-{
-    b as u32
-}
 
 fn is_same_answer(a: Filled, b: Filled) -> bool
     ensures { λ r. ⌜ r ≡ sameAnswer a b ⌝ }
