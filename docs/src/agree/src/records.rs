@@ -15,11 +15,14 @@ const PLACES: u32 = 2;
 
 /// How many blocks are drawn besides the damaged ones, and every how many of
 /// them is one of 5 by 5 by 5.
-const BLOCKS: usize = 330;
-const LARGEST_EVERY: usize = 30;
+const BLOCKS: usize = 300;
+const LARGEST_EVERY: usize = 40;
+
+/// The sizes of the others are drawn from these: small blocks are all rim.
+const SIZES: [u32; 8] = [1, 2, 2, 3, 3, 3, 4, 5];
 
 /// The most ids that one record asks for.
-const QUESTIONS: usize = 40;
+const QUESTIONS: usize = 30;
 
 /// The whole file. The first two records are the given case of document 01
 /// with row tables of 95 and of 96 numbers.
@@ -31,12 +34,14 @@ pub fn file() -> Vec<u8> {
     };
     let mut calls = vec![given(95), given(96)];
     calls.extend((0..BLOCKS).map(|n| drawn(&mut random, n)));
-    calls.extend(damaged(&mut random));
-    let mut bytes: Vec<u8> = calls
-        .iter()
-        .flat_map(|call| filling(call, random.bits() as u32))
-        .collect();
-    for call in calls.iter().filter(|call| is_asked(call)).step_by(9) {
+    let damaged = damaged(&mut random);
+    let mut bytes = Vec::new();
+    for call in calls.iter().chain(&damaged) {
+        bytes.extend(filling(call, random.bits() as u32));
+    }
+    let small = |call: &&Call| call.block.samples.len() < 150;
+    let asked = calls.iter().filter(small).step_by(13);
+    for call in asked.chain(damaged.iter().step_by(5)) {
         bytes.extend(places(&mut random, call));
     }
     bytes
@@ -58,7 +63,7 @@ fn drawn(random: &mut Random, n: usize) -> Call {
     let sizes = if n % LARGEST_EVERY == 0 {
         [5; 3]
     } else {
-        [0; 3].map(|_| random.between(1, 4) as u32)
+        [0; 3].map(|_| random.pick(&SIZES))
     };
     let mix = MIXES[n % MIXES.len()];
     let cutting = CUTTINGS[n / MIXES.len() % CUTTINGS.len()];
@@ -130,18 +135,15 @@ fn filling(call: &Call, lent: u32) -> Vec<u8> {
     record(FILLING, numbers, &body)
 }
 
-/// Small blocks, and those with a wrong size or table.
-fn is_asked(call: &Call) -> bool {
-    call.block.samples.len() < 150
-}
-
 /// The place call after this filling, then with state bytes changed at random.
 fn places(random: &mut Random, call: &Call) -> Vec<u8> {
     let state = run(call, 0, 0).state;
-    let strange: Vec<u8> = state
-        .iter()
-        .map(|&code| random.pick(&[code, random.clone().below(17) as u8, 0]))
-        .collect();
+    let mut strange = state.clone();
+    for code in &mut strange {
+        if random.percent(60) {
+            *code = random.below(17) as u8;
+        }
+    }
     [state, strange]
         .iter()
         .flat_map(|state| asked(random, call, state))

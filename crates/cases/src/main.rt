@@ -1,0 +1,133 @@
+// Reads recorded calls from standard input and makes each of them again: document 01's row tables of
+// 95 and of 96 numbers first, then blocks, places and files that separate software answered too. It
+// ends at the first difference and says in which record it is, counted from 1.
+use blockfile::numbers;
+use libc::STDIN_FILENO;
+use libc::STDOUT_FILENO;
+use std::num::wrapping_add_u64;
+
+// What became of a record.
+enum Step {
+    Agreed,
+    Differs,
+    End,
+}
+
+// Where in the tally the records stand, and those of each kind; the numbers answered come first.
+const RECORDS: usize = 13;
+const FILLINGS: usize = 14;
+const PLACES: usize = 15;
+
+fn print(word: &[u8]) {
+    io::write_all(STDOUT_FILENO, word);
+}
+
+fn print_number(n: u64) {
+    io::print_decimal(STDOUT_FILENO, n);
+}
+
+fn print_line(word: &[u8], n: u64, rest: &[u8]) {
+    print(word);
+    print_number(n);
+    print(rest);
+}
+
+fn field(head: &[u8; 48], at: usize) -> u64
+    requires { ⌜ at + 4 ≤ 48 ⌝ }
+{
+    numbers::four_at(head, at) as u64
+}
+
+fn count(tally: &mut [u64; 16], at: usize, n: u64) {
+    if at < 16 {
+        tally[at] = wrapping_add_u64(tally[at], n);
+    }
+}
+
+// What the given case's records state, once they agree: the row table's length, the number and T.
+fn print_given(head: &[u8; 48]) {
+    print_line(b"table of ", field(head, 20), b" numbers: ");
+    print_line(b"", field(head, 32), b", T ");
+    print_line(b"", field(head, 36), b"\n");
+}
+
+fn is_agreed(head: &[u8; 48], body: &[u8], samples: &mut [i16], state: &mut [u8], rows: &mut [u32]) -> bool {
+    if head[0] == 1 {
+        return recorded::fills::agrees(head, body, samples, state, rows);
+    }
+    if head[0] == 2 {
+        return recorded::questions::agrees(head, body);
+    }
+    false
+}
+
+// Counts a record that agrees.
+fn note(tally: &mut [u64; 16], head: &[u8; 48]) {
+    let number = numbers::four_at(head, 32);
+    if head[0] == 1 {
+        count(tally, FILLINGS, 1);
+        count(tally, number, 1);
+        if tally[FILLINGS] < 3 {
+            print_given(head);
+        }
+        return;
+    }
+    let questions = field(head, 16);
+    count(tally, PLACES, questions);
+    count(tally, number, questions);
+}
+
+fn check_next(tally: &mut [u64; 16], samples: &mut [i16], state: &mut [u8], rows: &mut [u32]) -> Step {
+    let mut head = [0u8; 48];
+    let mut body = [0u8; 33000];
+    let got = io::read_full(STDIN_FILENO, &mut head);
+    if got == 0 {
+        return Step::End;
+    }
+    count(tally, RECORDS, 1);
+    let length = numbers::four_at(&head, 4);
+    if got < 48 || 33000 < length {
+        return Step::Differs;
+    }
+    if io::read_full(STDIN_FILENO, &mut body[..length]) < length {
+        return Step::Differs;
+    }
+    if !is_agreed(&head, &body[..length], samples, state, rows) {
+        return Step::Differs;
+    }
+    note(tally, &head);
+    Step::Agreed
+}
+
+// A proved loop has to end, and nothing says that the input does: so it counts its turns down, from
+// a number that no run uses up.
+fn check_all(tally: &mut [u64; 16], samples: &mut [i16], state: &mut [u8], rows: &mut [u32]) -> bool {
+    let mut turns = u64::MAX;
+    while turns > 0 {
+        turns -= 1;
+        let step = check_next(tally, samples, state, rows);
+        match step {
+            Step::Agreed => {}
+            Step::Differs => return false,
+            Step::End => return true,
+        }
+    }
+    false
+}
+
+fn main() {
+    let mut tally = [0u64; 16];
+    let mut samples = [0i16; 400];
+    let mut state = [0u8; 2400];
+    let mut rows = [0u32; 14500];
+    if !check_all(&mut tally, &mut samples, &mut state, &mut rows) {
+        print_line(b"record ", tally[RECORDS], b" differs\n");
+        return;
+    }
+    print_line(b"fillings ", tally[FILLINGS], b" agree\n");
+    print_line(b"places ", tally[PLACES], b" agree\n");
+    for number in 0..13 {
+        print_line(b"answered ", number as u64, b": ");
+        print_line(b"", tally[number], b"\n");
+    }
+}
