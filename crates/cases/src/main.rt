@@ -5,18 +5,13 @@ use blockfile::numbers;
 use libc::STDIN_FILENO;
 use libc::STDOUT_FILENO;
 use std::num::wrapping_add_u64;
+ghost use Prim.Native.Nat.{_+_, _<_, _≤_};
 
-// What became of a record.
-enum Step {
-    Agreed,
-    Differs,
-    End,
-}
-
-// Where in the tally the records stand, and those of each kind; the numbers answered come first.
+// Where in the tally, after the numbers answered, the records, the differences and the calls stand.
 const RECORDS: usize = 13;
-const FILLINGS: usize = 14;
-const PLACES: usize = 15;
+const DIFFERENCES: usize = 14;
+const FILLINGS: usize = 15;
+const PLACES: usize = 16;
 
 fn print(word: &[u8]) {
     io::write_all(STDOUT_FILENO, word);
@@ -38,8 +33,8 @@ fn field(head: &[u8; 48], at: usize) -> u64
     numbers::four_at(head, at) as u64
 }
 
-fn count(tally: &mut [u64; 16], at: usize, n: u64) {
-    if at < 16 {
+fn count(tally: &mut [u64; 17], at: usize, n: u64) {
+    if at < 17 {
         tally[at] = wrapping_add_u64(tally[at], n);
     }
 }
@@ -51,9 +46,13 @@ fn print_given(head: &[u8; 48]) {
     print_line(b"", field(head, 36), b"\n");
 }
 
-fn is_agreed(head: &[u8; 48], body: &[u8], samples: &mut [i16], state: &mut [u8], rows: &mut [u32]) -> bool {
+// Makes the calls of a record again, in tables with room for 5 by 5 by 5 cubes.
+fn is_agreed(head: &[u8; 48], body: &[u8]) -> bool {
+    let mut samples = [0i16; 400];
+    let mut state = [0u8; 2400];
+    let mut rows = [0u32; 14500];
     if head[0] == 1 {
-        return recorded::fills::agrees(head, body, samples, state, rows);
+        return recorded::fills::agrees(head, body, &mut samples, &mut state, &mut rows);
     }
     if head[0] == 2 {
         return recorded::questions::agrees(head, body);
@@ -62,7 +61,7 @@ fn is_agreed(head: &[u8; 48], body: &[u8], samples: &mut [i16], state: &mut [u8]
 }
 
 // Counts a record that agrees.
-fn note(tally: &mut [u64; 16], head: &[u8; 48]) {
+fn note(tally: &mut [u64; 17], head: &[u8; 48]) {
     let number = numbers::four_at(head, 32);
     if head[0] == 1 {
         count(tally, FILLINGS, 1);
@@ -77,57 +76,70 @@ fn note(tally: &mut [u64; 16], head: &[u8; 48]) {
     count(tally, number, questions);
 }
 
-fn check_next(tally: &mut [u64; 16], samples: &mut [i16], state: &mut [u8], rows: &mut [u32]) -> Step {
+// Reads the body that belongs to a head, and checks the record.
+fn check_body(head: &[u8; 48], body: &mut [u8]) -> bool {
+    let length = numbers::four_at(head, 4);
+    if body.len() < length {
+        return false;
+    }
+    if io::read_full(STDIN_FILENO, &mut body[..length]) < length {
+        return false;
+    }
+    is_agreed(head, &body[..length])
+}
+
+// Checks one record and answers whether to go on: not after the last one, and not after a difference.
+fn check_next(tally: &mut [u64; 17]) -> bool {
     let mut head = [0u8; 48];
     let mut body = [0u8; 33000];
     let got = io::read_full(STDIN_FILENO, &mut head);
     if got == 0 {
-        return Step::End;
+        return false;
     }
     count(tally, RECORDS, 1);
-    let length = numbers::four_at(&head, 4);
-    if got < 48 || 33000 < length {
-        return Step::Differs;
+    if got < 48 {
+        count(tally, DIFFERENCES, 1);
+        return false;
     }
-    if io::read_full(STDIN_FILENO, &mut body[..length]) < length {
-        return Step::Differs;
-    }
-    if !is_agreed(&head, &body[..length], samples, state, rows) {
-        return Step::Differs;
+    if !check_body(&head, &mut body) {
+        count(tally, DIFFERENCES, 1);
+        return false;
     }
     note(tally, &head);
-    Step::Agreed
+    true
 }
 
 // A proved loop has to end, and nothing says that the input does: so it counts its turns down, from
 // a number that no run uses up.
-fn check_all(tally: &mut [u64; 16], samples: &mut [i16], state: &mut [u8], rows: &mut [u32]) -> bool {
+fn check_all(tally: &mut [u64; 17]) {
     let mut turns = u64::MAX;
-    while turns > 0 {
+    while turns > 0 && check_next(tally) {
         turns -= 1;
-        let step = check_next(tally, samples, state, rows);
-        match step {
-            Step::Agreed => {}
-            Step::Differs => return false,
-            Step::End => return true,
-        }
     }
-    false
+}
+
+fn print_count(tally: &[u64; 17], number: usize)
+    requires { ⌜ number < 17 ⌝ }
+{
+    print_line(b"answered ", number as u64, b": ");
+    print_line(b"", tally[number], b"\n");
+}
+
+// How often each number of document 01 was answered.
+fn print_counts(tally: &[u64; 17]) {
+    for number in 0..13 {
+        print_count(tally, number);
+    }
 }
 
 fn main() {
-    let mut tally = [0u64; 16];
-    let mut samples = [0i16; 400];
-    let mut state = [0u8; 2400];
-    let mut rows = [0u32; 14500];
-    if !check_all(&mut tally, &mut samples, &mut state, &mut rows) {
+    let mut tally = [0u64; 17];
+    check_all(&mut tally);
+    if tally[DIFFERENCES] != 0 {
         print_line(b"record ", tally[RECORDS], b" differs\n");
         return;
     }
     print_line(b"fillings ", tally[FILLINGS], b" agree\n");
     print_line(b"places ", tally[PLACES], b" agree\n");
-    for number in 0..13 {
-        print_line(b"answered ", number as u64, b": ");
-        print_line(b"", tally[number], b"\n");
-    }
+    print_counts(&tally);
 }
