@@ -9,8 +9,11 @@ ghost use Prim.Native.Nat.{_+_, _<_, _≤_};
 
 // Where in the tally, after the numbers answered, the records, the differences and the calls stand.
 const RECORDS: usize = 13;
+
 const DIFFERENCES: usize = 14;
+
 const FILLINGS: usize = 15;
+
 const PLACES: usize = 16;
 
 fn print(word: &[u8]) {

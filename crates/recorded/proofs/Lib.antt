@@ -3,3 +3,4 @@ pub mod Turns
 pub mod Fits
 pub mod Composed
 pub mod Asking
+pub mod Reading

@@ -136,5 +136,12 @@ pub fn agrees(
     let n = l.samples;
     let k = l.state;
     let m = l.rows;
-    is_agreed(l, head, body, &mut samples[..n], &mut state[..k], &mut rows[..m])
+    is_agreed(
+        l,
+        head,
+        body,
+        &mut samples[..n],
+        &mut state[..k],
+        &mut rows[..m],
+    )
 }

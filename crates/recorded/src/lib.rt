@@ -1,5 +1,7 @@
 // Recorded calls: what separate software answered, held against what the calls answer.
 ghost use mathlib.Core.Path.{_≡_};
+
+pub mod files;
 pub mod fills;
 mod heads;
 pub mod questions;
@@ -21,6 +23,15 @@ pub struct Asked {
     pub state: usize,
     pub questions: usize,
     pub number: u32,
+}
+
+// How many bytes a recorded file has, the lengths of the tables lent to its reader, and the largest
+// size that it takes.
+pub struct Filed {
+    pub file: usize,
+    pub samples: usize,
+    pub cuts: usize,
+    pub limit: usize,
 }
 
 fn wide(b: u8) -> u32

@@ -26,8 +26,7 @@ returns c =
     let k = c .before .before .before .before .before .before .four-at2 .ensures in
     let t = c .before .before .before .before .four-at3 .ensures in
     let r = c .before .before .four-at4 .ensures in
-    let d = c .four-at5 .ensures in
-    (
+    let d = c .four-at5 .ensures in (
       λ i. record { samples = s .0 i; cuts = k .0 i; state = t .0 i; rows = r .0 i; ids = d .0 i },
       (s .1, k .1, t .1, d .1),
     )

@@ -44,8 +44,7 @@ loop-less c = omega arith
 
 loop-again : tie.Need-loop-again Inv-loop μ-loop
 loop-again c =
-    let at = c .before .before .before in
-    (
+    let at = c .before .before .before in (
       omega arith,
       at .loop .inv .1,
       right-answer _ _ _ _ _ _ _ (at .loop .i) (omega arith) (c .before .is-answered .ensures) (not-false _ (c .if1 .left)) ∙ at .loop .inv .2,
