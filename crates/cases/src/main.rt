@@ -16,6 +16,8 @@ const FILLINGS: usize = 15;
 
 const PLACES: usize = 16;
 
+const FILES: usize = 17;
+
 fn print(word: &[u8]) {
     io::write_all(STDOUT_FILENO, word);
 }
@@ -36,8 +38,8 @@ fn field(head: &[u8; 48], at: usize) -> u64
     numbers::four_at(head, at) as u64
 }
 
-fn count(tally: &mut [u64; 17], at: usize, n: u64) {
-    if at < 17 {
+fn count(tally: &mut [u64; 18], at: usize, n: u64) {
+    if at < 18 {
         tally[at] = wrapping_add_u64(tally[at], n);
     }
 }
@@ -49,22 +51,26 @@ fn print_given(head: &[u8; 48]) {
     print_line(b"", field(head, 36), b"\n");
 }
 
-// Makes the calls of a record again, in tables with room for 5 by 5 by 5 cubes.
+// Makes the calls of a record again, in tables with room for 5 by 5 by 5 cubes. The table of bytes is
+// the state table of a filling, or the cut table of a file.
 fn is_agreed(head: &[u8; 48], body: &[u8]) -> bool {
     let mut samples = [0i16; 400];
-    let mut state = [0u8; 2400];
+    let mut bytes = [0u8; 2400];
     let mut rows = [0u32; 14500];
     if head[0] == 1 {
-        return recorded::fills::agrees(head, body, &mut samples, &mut state, &mut rows);
+        return recorded::fills::agrees(head, body, &mut samples, &mut bytes, &mut rows);
     }
     if head[0] == 2 {
         return recorded::questions::agrees(head, body);
+    }
+    if head[0] == 3 {
+        return recorded::files::agrees(head, body, &mut samples, &mut bytes);
     }
     false
 }
 
 // Counts a record that agrees.
-fn note(tally: &mut [u64; 17], head: &[u8; 48]) {
+fn note(tally: &mut [u64; 18], head: &[u8; 48]) {
     let number = numbers::four_at(head, 32);
     if head[0] == 1 {
         count(tally, FILLINGS, 1);
@@ -72,6 +78,11 @@ fn note(tally: &mut [u64; 17], head: &[u8; 48]) {
         if tally[FILLINGS] < 3 {
             print_given(head);
         }
+        return;
+    }
+    if head[0] == 3 {
+        count(tally, FILES, 1);
+        count(tally, number, 1);
         return;
     }
     let questions = field(head, 16);
@@ -92,7 +103,7 @@ fn check_body(head: &[u8; 48], body: &mut [u8]) -> bool {
 }
 
 // Checks one record and answers whether to go on: not after the last one, and not after a difference.
-fn check_next(tally: &mut [u64; 17]) -> bool {
+fn check_next(tally: &mut [u64; 18]) -> bool {
     let mut head = [0u8; 48];
     let mut body = [0u8; 33000];
     let got = io::read_full(STDIN_FILENO, &mut head);
@@ -114,29 +125,29 @@ fn check_next(tally: &mut [u64; 17]) -> bool {
 
 // A proved loop has to end, and nothing says that the input does: so it counts its turns down, from
 // a number that no run uses up.
-fn check_all(tally: &mut [u64; 17]) {
+fn check_all(tally: &mut [u64; 18]) {
     let mut turns = u64::MAX;
     while turns > 0 && check_next(tally) {
         turns -= 1;
     }
 }
 
-fn print_count(tally: &[u64; 17], number: usize)
-    requires { ⌜ number < 17 ⌝ }
+fn print_count(tally: &[u64; 18], number: usize)
+    requires { ⌜ number < 18 ⌝ }
 {
     print_line(b"answered ", number as u64, b": ");
     print_line(b"", tally[number], b"\n");
 }
 
 // How often each number of document 01 was answered.
-fn print_counts(tally: &[u64; 17]) {
+fn print_counts(tally: &[u64; 18]) {
     for number in 0..13 {
         print_count(tally, number);
     }
 }
 
 fn main() {
-    let mut tally = [0u64; 17];
+    let mut tally = [0u64; 18];
     check_all(&mut tally);
     if tally[DIFFERENCES] != 0 {
         print_line(b"record ", tally[RECORDS], b" differs\n");
@@ -144,5 +155,6 @@ fn main() {
     }
     print_line(b"fillings ", tally[FILLINGS], b" agree\n");
     print_line(b"places ", tally[PLACES], b" agree\n");
+    print_line(b"files ", tally[FILES], b" agree\n");
     print_counts(&tally);
 }

@@ -4,6 +4,7 @@
 
 use crate::run;
 use reference::block::Block;
+use reference::blockfile::{read, write, BENCH_SIZE};
 use reference::damage::{Call, Damage, DAMAGES};
 use reference::generate::{block, CUTTINGS, MIXES};
 use reference::place::{place, Placed};
@@ -12,6 +13,7 @@ use reference::random::Random;
 /// The kinds of records.
 const FILLING: u32 = 1;
 const PLACES: u32 = 2;
+const FILE: u32 = 3;
 
 /// How many blocks are drawn besides the damaged ones, and every how many of
 /// them is one of 5 by 5 by 5.
@@ -23,6 +25,9 @@ const SIZES: [u32; 8] = [1, 2, 2, 3, 3, 3, 4, 5];
 
 /// The most ids that one record asks for.
 const QUESTIONS: usize = 30;
+
+/// How many block files are drawn, most of them damaged.
+const FILES: usize = 100;
 
 /// The whole file. The first two records are the given case of document 01
 /// with row tables of 95 and of 96 numbers.
@@ -40,9 +45,12 @@ pub fn file() -> Vec<u8> {
         bytes.extend(filling(call, random.bits() as u32));
     }
     let small = |call: &&Call| call.block.samples.len() < 150;
-    let asked = calls.iter().filter(small).step_by(13);
-    for call in asked.chain(damaged.iter().step_by(5)) {
+    let asked = calls.iter().filter(small).step_by(20);
+    for call in asked.chain(damaged.iter().step_by(6)) {
         bytes.extend(places(&mut random, call));
+    }
+    for n in 0..FILES {
+        bytes.extend(block_file(&mut random, n));
     }
     bytes
 }
@@ -111,7 +119,11 @@ fn size_bytes(call: &Call) -> Vec<u8> {
 fn filling(call: &Call, lent: u32) -> Vec<u8> {
     let outcome = run(call, lent as u8, lent);
     let answer = outcome.filled;
-    let count = if answer.number == 0 { 4 * answer.rows as usize } else { 0 };
+    let count = if answer.number == 0 {
+        4 * answer.rows as usize
+    } else {
+        0
+    };
     let (ids, rest) = outcome.rows.split_at(count);
     assert!(rest.iter().all(|&id| id == lent));
     let mut body = size_bytes(call);
@@ -189,4 +201,54 @@ fn questions(call: &Call, state: &[u8], number: u32, group: &[&(u32, Placed)]) -
     numbers[2] = group.len() as u32;
     numbers[6] = number;
     record(PLACES, numbers, &body)
+}
+
+/// A block file, damaged in some way, and what reading it answers and writes.
+/// The reader takes the first bytes that are a whole file, and says where it
+/// ends; the sample table holds zeros beforehand.
+fn block_file(random: &mut Random, n: usize) -> Vec<u8> {
+    let sizes = [0; 3].map(|_| random.between(1, 3) as u32);
+    let (mix, cutting) = (random.pick(&MIXES), random.pick(&CUTTINGS));
+    let block = block(random, sizes, mix, cutting);
+    let mut file = write(&block).expect("a block that a file can hold");
+    spoil_file(random, n, &mut file);
+    let lent = random.bits() as u8;
+    let mut samples = vec![0; block.samples.len() + random.below(3)];
+    let mut cuts = vec![lent; block.cuts.len() + random.below(3)];
+    let whole = (0..=file.len()).find_map(|end| Some((end, read(&file[..end], BENCH_SIZE).ok()?)));
+    let mut numbers = [0; 10];
+    numbers[..4].copy_from_slice(&[file.len(), samples.len(), cuts.len(), 5].map(|n| n as u32));
+    numbers[5] = lent.into();
+    match whole {
+        Some((end, block)) => {
+            samples[..block.samples.len()].copy_from_slice(&block.samples);
+            cuts[..block.cuts.len()].copy_from_slice(&block.cuts);
+            let [x, y, z] = block.sizes;
+            numbers[7..].copy_from_slice(&[end as u32, x + (y << 16), z]);
+        }
+        None => numbers[6] = read(&file, BENCH_SIZE).expect_err("a file that is no block"),
+    }
+    let mut body = file;
+    body.extend(samples.iter().flat_map(|sample: &i16| sample.to_le_bytes()));
+    body.extend(cuts);
+    record(FILE, numbers, &body)
+}
+
+/// Leaves the file as it is, makes it longer or shorter, or changes a size or
+/// another byte after the samples.
+fn spoil_file(random: &mut Random, n: usize, file: &mut Vec<u8>) {
+    let samples = file[..3].iter().map(|&size| usize::from(size));
+    let corners: usize = samples.clone().map(|size| size + 1).product();
+    let runs = 3 + 2 * (corners + samples.product::<usize>());
+    match n % 6 {
+        0 => {}
+        1 => file.extend([random.bits() as u8, 0]),
+        2 => file.truncate(random.below(file.len())),
+        3 => file.truncate(random.below(5)),
+        4 => file[random.below(3)] = random.pick(&[0, 6, 64, 65, 255]),
+        _ => {
+            let at = random.between(runs as i64, file.len() as i64 - 1) as usize;
+            file[at] = random.pick(&[0, 1, 2, 255]);
+        }
+    }
 }

@@ -62,14 +62,13 @@ loop-less c = omega arith
 
 loop-again : tie.Need-loop-again Inv-loop μ-loop
 loop-again c =
-    let at = c .before .before .before .before .before .before in
-    (
+    let at = c .before .before .before .before .before .before in (
       omega arith,
       at .loop .inv .1,
       samples-next _ _ _ (at .loop .i) (omega arith) (c .before .is-same-sample .ensures)
-    (toZ-ofZ w16 _ (record { sfits = c .before .before .is-same-sample-arg .given }))
-    (toZ-ofZ w16 _ (record { sfits = c .before .before .before .signed .ok }) ∙ c .before .before .before .signed .ensures ∙ ap signed (c .before .before .before .before .two-at .ensures .0)) (not-false _ (c .if1 .left))
-      ∙ at .loop .inv .2,
+          (toZ-ofZ w16 _ (record { sfits = c .before .before .is-same-sample-arg .given }))
+          (toZ-ofZ w16 _ (record { sfits = c .before .before .before .signed .ok }) ∙ c .before .before .before .signed .ensures ∙ ap signed (c .before .before .before .before .two-at .ensures .0)) (not-false _ (c .if1 .left))
+          ∙ at .loop .inv .2,
     )
 
 returns-2 : tie.Need-returns-2 Inv-loop μ-loop
