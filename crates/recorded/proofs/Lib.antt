@@ -4,3 +4,4 @@ pub mod Fits
 pub mod Composed
 pub mod Asking
 pub mod Reading
+pub mod Agreement
