@@ -2,7 +2,7 @@
 -- bytes. Assumes nothing.
 use mathlib.Core.Path.{_≡_, refl}
 use mathlib.Core.List.{_++_}
-use Rattle.cases.specs.Given.{laid, laidRuns, givenSamples, givenCuts, unchanged, changed}
+use Rattle.casebook.specs.Given.{laid, laidRuns, givenSamples, givenCuts, unchanged, changed}
 use Rattle.blockfile.specs.Format.{read}
 use Rattle.blockfile.specs.Write.{write}
 use Rattle.blockfile.specs.Examples.{givenFile, lentSamples, lentCuts}

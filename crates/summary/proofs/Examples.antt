@@ -1,8 +1,8 @@
 -- Each file's summary, with the program's tables, is the expected one. Assumes nothing.
 use mathlib.Core.Path.{_≡_, refl}
 use mathlib.Core.List.{map}
-use Rattle.cases.specs.Given.{laid, laidRuns, givenSamples, givenCuts, changed}
-use Rattle.cases.proofs.Opened.{definitions}
+use Rattle.casebook.specs.Given.{laid, laidRuns, givenSamples, givenCuts, changed}
+use Rattle.casebook.proofs.Opened.{definitions}
 use Rattle.yakuemi.specs.Measures.{measure}
 use Rattle.blockfile.proofs.Opened.{format}
 use Rattle.summary.specs.Summary.{refusal, counted, fillRead, summary}

@@ -3,7 +3,7 @@ use Prim.Native.Nat.{ℕ}
 use mathlib.Core.List.{List, [], _∷_, _++_}
 use lib.IntN.{pos}
 use lib.ListN.{replicate}
-use Rattle.cases.specs.Given.{unchanged, byte-at, sample-at, changed}
+use Rattle.casebook.specs.Given.{unchanged, byte-at, sample-at, changed}
 use Rattle.blockfile.specs.Write.{write}
 use Rattle.summary.specs.declared.Summary.{Summary}
 use Rattle.summary.specs.Summary.{refusal, summary}

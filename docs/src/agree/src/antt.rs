@@ -1,4 +1,4 @@
-//! The text of crates/cases/specs/Blocks.antt.
+//! The text of crates/casebook/specs/Blocks.antt.
 
 use crate::{Question, LENT_ROW, LENT_STATE};
 use reference::damage::{Call, Outcome};
@@ -125,7 +125,7 @@ const HEAD: &str = "\
 use mathlib.Core.List.{List, [], _∷_}
 use lib.IntN.{pos}
 use Rattle.basics.specs.Table.{_:=_}
-use Rattle.cases.specs.Lent.{as-lent, codes}
-use Rattle.cases.specs.Example.{Example, neg, ask}
+use Rattle.casebook.specs.Lent.{as-lent, codes}
+use Rattle.casebook.specs.Example.{Example, neg, ask}
 
 ";

@@ -1,13 +1,16 @@
-//! Writes crates/cases/specs/Blocks.antt to standard output: calls of filling
-//! and of the place of an id, each with what the reference answers and leaves
-//! in the lent tables. `cargo run > ../../../crates/cases/specs/Blocks.antt`
+//! Writes calls of filling and of the place of an id, each with what the
+//! reference answers and leaves in the lent tables, to standard output: as
+//! crates/casebook/specs/Blocks.antt with the argument `blocks`, and as
+//! crates/cases/stdin, many more of them, with the argument `cases`.
 
 mod antt;
 mod calls;
+mod records;
 
 use reference::damage::{Call, Outcome};
 use reference::place::{place, Placed};
 use reference::{fill, plain};
+use std::io::Write;
 
 /// What the lent tables hold before a call.
 const LENT_STATE: u8 = 99;
@@ -22,14 +25,19 @@ pub struct Question {
     answer: Placed,
 }
 
-fn main() {
-    print!("{}", written());
+fn main() -> std::io::Result<()> {
+    let bytes = match std::env::args().nth(1).as_deref() {
+        Some("blocks") => written().into_bytes(),
+        Some("cases") => records::file(),
+        _ => panic!("blocks or cases?"),
+    };
+    std::io::stdout().write_all(&bytes)
 }
 
 /// The whole file.
 fn written() -> String {
     let example = |(title, call): &(String, Call)| {
-        let outcome = run(call);
+        let outcome = run(call, LENT_STATE, LENT_ROW);
         let questions = questions(call, &outcome.state);
         antt::example(title, call, &outcome, &questions)
     };
@@ -38,12 +46,12 @@ fn written() -> String {
 }
 
 /// Makes the call with both fillings of the reference, which must agree.
-fn run(call: &Call) -> Outcome {
+fn run(call: &Call, lent_state: u8, lent_row: u32) -> Outcome {
     let [nx, ny, nz] = call.block.sizes;
     let (samples, cuts) = (&call.block.samples, &call.block.cuts);
     let [fast, plain] = [fill::fill, plain::fill].map(|filling| {
-        let mut state = vec![LENT_STATE; call.state_length];
-        let mut rows = vec![LENT_ROW; call.row_length];
+        let mut state = vec![lent_state; call.state_length];
+        let mut rows = vec![lent_row; call.row_length];
         let filled = filling(nx, ny, nz, samples, cuts, &mut state, &mut rows);
         Outcome {
             filled,
@@ -108,11 +116,17 @@ mod tests {
     use super::*;
 
     #[test]
+    fn the_cases_are_what_this_writes() {
+        let file = include_bytes!("../../../../crates/cases/stdin");
+        assert!(file[..] == records::file(), "write crates/cases/stdin anew");
+    }
+
+    #[test]
     fn the_file_is_what_this_writes() {
-        let file = include_str!("../../../../crates/cases/specs/Blocks.antt");
+        let file = include_str!("../../../../crates/casebook/specs/Blocks.antt");
         assert!(
             file == written(),
-            "write crates/cases/specs/Blocks.antt anew"
+            "write crates/casebook/specs/Blocks.antt anew"
         );
     }
 }

@@ -3,8 +3,8 @@
 use mathlib.Core.List.{List, [], _∷_}
 use lib.IntN.{pos}
 use Rattle.basics.specs.Table.{_:=_}
-use Rattle.cases.specs.Lent.{as-lent, codes}
-use Rattle.cases.specs.Example.{Example, neg, ask}
+use Rattle.casebook.specs.Lent.{as-lent, codes}
+use Rattle.casebook.specs.Example.{Example, neg, ask}
 
 -- 1 by 1 by 1, labels Even, cut bytes Limits
 abbrev pub e1 : Example

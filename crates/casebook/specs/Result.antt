@@ -12,9 +12,9 @@ use Rattle.filling.specs.declared.Filled.{Filled}
 use Rattle.filling.specs.Mesh.{rowVolume}
 use Rattle.filling.specs.Fill.{Outcome, fill}
 use Rattle.filling.specs.Located.{locate}
-use Rattle.cases.specs.Lent.{lentState, lentRows, stateTable}
-use Rattle.cases.specs.Given.{givenSizes, changed}
-use Rattle.cases.specs.Cases.{Case, Claim, counts, first-row, place-of}
+use Rattle.casebook.specs.Lent.{lentState, lentRows, stateTable}
+use Rattle.casebook.specs.Given.{givenSizes, changed}
+use Rattle.casebook.specs.Cases.{Case, Claim, counts, first-row, place-of}
 
 pub record Result : Type 0 where
   pub answer : Filled

@@ -1,10 +1,10 @@
 -- Document 01's cases come out: what `fill` and `locate` say of each is what document 01 says. Assumes nothing.
 use mathlib.Core.Path.{_≡_, refl}
 use mathlib.Core.List.{map}
-use Rattle.cases.specs.Given.{laid, laidRuns, givenSamples, givenCuts, changed}
-use Rattle.cases.specs.Cases.{cases}
-use Rattle.cases.specs.Result.{computed, expected, found, resultOf}
-use Rattle.cases.proofs.Opened.{definitions}
+use Rattle.casebook.specs.Given.{laid, laidRuns, givenSamples, givenCuts, changed}
+use Rattle.casebook.specs.Cases.{cases}
+use Rattle.casebook.specs.Result.{computed, expected, found, resultOf}
+use Rattle.casebook.proofs.Opened.{definitions}
 
 pub cases-come-out : map computed cases ≡ map expected cases
 unfolding definitions laid laidRuns givenSamples givenCuts changed cases computed expected found resultOf

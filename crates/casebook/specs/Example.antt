@@ -10,7 +10,7 @@ use Rattle.filling.specs.declared.Filled.{Filled}
 use Rattle.filling.specs.declared.Placed.{Placed}
 use Rattle.filling.specs.Fill.{Outcome, fill}
 use Rattle.filling.specs.Located.{locate}
-use Rattle.cases.specs.Lent.{lentState, lentRows, State, stateTable}
+use Rattle.casebook.specs.Lent.{lentState, lentRows, State, stateTable}
 
 abbrev pub neg : ℕ → ℤ
 neg n = negℤ (pos n)

@@ -7,8 +7,8 @@ use Rattle.basics.specs.Table.{_:=_}
 use Rattle.stencil.specs.Row.{Row, row}
 use Rattle.filling.specs.declared.Filled.{Filled}
 use Rattle.filling.specs.declared.Placed.{Placed}
-use Rattle.cases.specs.Lent.{State, as-lent, codes}
-use Rattle.cases.specs.Given.{Change, unchanged, byte-at, sample-at}
+use Rattle.casebook.specs.Lent.{State, as-lent, codes}
+use Rattle.casebook.specs.Given.{Change, unchanged, byte-at, sample-at}
 
 -- what a case says besides the answer and the tables: how many points and lattice tetrahedra there are, the first row as written with its
 -- six-volume, or what the place call answers for an id after filling

@@ -1,9 +1,9 @@
 -- The definitions agree with separate software: answers, whole tables and places are those that it recorded. Assumes nothing.
 use mathlib.Core.Path.{_≡_, refl}
 use mathlib.Core.List.{map}
-use Rattle.cases.specs.Example.{blockIn, recorded, asked, answered, defined}
-use Rattle.cases.specs.Blocks.{examples}
-use Rattle.cases.proofs.Opened.{definitions}
+use Rattle.casebook.specs.Example.{blockIn, recorded, asked, answered, defined}
+use Rattle.casebook.specs.Blocks.{examples}
+use Rattle.casebook.proofs.Opened.{definitions}
 
 pub agrees : map defined examples ≡ map recorded examples
 unfolding definitions blockIn recorded asked answered defined examples

@@ -1,0 +1,4 @@
+pub mod Same
+pub mod Fills
+pub mod Questions
+pub mod Files
