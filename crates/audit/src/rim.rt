@@ -7,6 +7,7 @@ use lattice::Sizes;
 use lattice::counts;
 use lattice::edges;
 use lattice::numbers;
+use lattice::rim;
 ghost use mathlib.Core.Path.{_≡_};
 ghost use mathlib.Core.Bool.{_||_};
 ghost use mathlib.Core.List.{List};
@@ -21,17 +22,6 @@ ghost use Rattle.filling.specs.Check.{firstRim};
 ghost use Rattle.audit.specs.Lines.{Line};
 ghost use Rattle.audit.specs.Outside.{plusAt, outside};
 
-// The first or the last of m along an axis.
-fn is_outermost(m: usize, i: usize) -> bool
-    requires { ⌜ i ≤ 64 ⌝ }
-    ensures { λ r. ⌜ r ≡ outermost m i ⌝ }
-{
-    if i == 0 {
-        return true;
-    }
-    i + 1 == m
-}
-
 // All points of a line are on the rim.
 fn is_outer(s: Sizes, q: Site) -> bool
     requires { ⌜ Sized s ⌝ }
@@ -40,10 +30,10 @@ fn is_outer(s: Sizes, q: Site) -> bool
 {
     let kind = q.kind;
     let odd = edges::odd_of(kind);
-    if is_outermost(s.ny + 1 - odd, q.y) {
+    if rim::is_outermost(s.ny + 1 - odd, q.y) {
         return true;
     }
-    is_outermost(s.nz + 1 - odd, q.z)
+    rim::is_outermost(s.nz + 1 - odd, q.z)
 }
 
 // The first point above zero from one point on and before another.

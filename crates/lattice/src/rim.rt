@@ -10,7 +10,7 @@ ghost use Rattle.lattice.specs.Rim.{outermost, rimAt};
 ghost use Rattle.lattice.specs.Site.{Sited, index};
 
 // The first or the last of m along an axis.
-fn is_outermost(m: usize, i: usize) -> bool
+pub fn is_outermost(m: usize, i: usize) -> bool
     requires { ⌜ i ≤ 64 ⌝ }
     ensures { λ r. ⌜ r ≡ outermost m i ⌝ }
 {

@@ -39,7 +39,8 @@ use Rattle.filling.specs.Check.{rimFault, crossesTo, crosses, cutFault}
 use Rattle.filling.proofs.Accepted.{Accepted}
 use Rattle.volumes.proofs.Sound.{reach, Moved, Sound}
 use Rattle.faces.proofs.Signed.{NoRim}
-use Rattle.mesh.proofs.Warp.{Bytes, pointOf, rest-number, moved-within, still-stands}
+use Rattle.geometry.proofs.FromEnd.{rest-along}
+use Rattle.mesh.proofs.Warp.{Bytes, pointOf, moved-within, still-stands}
 
 -- after moving: the label of a point, and the place of an id
 abbrev pub finalLabel : Block → ℕ → Label
@@ -114,7 +115,7 @@ module _ (b : Block) (k : Kind) (i : Axis → ℕ) (inside : Inside (b .sizes) k
       ≡ latticePlace k i a +ℤ pos (cutByte b (byteAt (pointOf b k i) d)) *ℤ signed (direction d a)
   unfolding placeOf cutPlace
   cut-place d h a =
-      rw (le-ltb (cutId (b .sizes) (pointOf b k i) d) (points (b .sizes)) (omega arith), start, way, rest-number (b .sizes) k i inside a) refl
+      rw (le-ltb (cutId (b .sizes) (pointOf b k i) d) (points (b .sizes)) (omega arith), start, way, rest-along (b .sizes) k i inside a) refl
     where
       start : (cutId (b .sizes) (pointOf b k i) d - points (b .sizes)) / 7 ≡ pointOf b k i
       start = omega arith

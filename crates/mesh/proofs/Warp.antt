@@ -10,7 +10,6 @@ use lib.Dec.{T, eqb, leb, leb→le}
 use borrow.Author.Tests.{ne-eqb}
 use Rattle.basics.specs.Choice.{if_then_else_}
 use Rattle.basics.proofs.Test.{&&-r}
-use Rattle.basics.proofs.Integer.{ring, nat, _⊕_, _⊖_, _⊗_}
 use Rattle.lattice.specs.declared.Sizes.{Sizes}
 use Rattle.lattice.specs.declared.Kind.{Kind}
 use Rattle.lattice.specs.declared.Near.{Near}
@@ -20,12 +19,13 @@ use Rattle.lattice.specs.Counts.{points}
 use Rattle.lattice.specs.Point.{doubled, Inside, number}
 use Rattle.lattice.specs.Direction.{Code, isStart, directionOf, step}
 use Rattle.lattice.specs.Edge.{near, byteAt, edgeByte}
-use Rattle.lattice.proofs.Number.{number-lt, kind-number, index-number}
+use Rattle.lattice.proofs.Number.{number-lt}
 use Rattle.lattice.proofs.Edge.{FarEnd, far-end, near-number}
 use Rattle.moving.specs.Block.{Block, cutByte}
 use Rattle.moving.specs.Violation.{limit, measured, violates}
 use Rattle.moving.specs.Moving.{live, violatedAlong, violatedBy, choice, codes, stateOf}
 use Rattle.moving.proofs.Moved.{code-is, choice-violates}
+use Rattle.geometry.proofs.FromEnd.{rest-along, from-end}
 use Rattle.geometry.specs.Place.{Place, latticePlace, rest, signed, cutPlace, movedPlace, pointPlace}
 
 -- cut bytes are bytes
@@ -36,24 +36,11 @@ Bytes b = (o : ℕ) → cutByte b o < 256
 abbrev pub pointOf : Block → Kind → (Axis → ℕ) → ℕ
 pointOf b = number (b .sizes)
 
-pub rest-number : (s : Sizes) (k : Kind) (i : Axis → ℕ) → Inside s k i → (a : Axis) → rest s (number s k i) a ≡ latticePlace k i a
-rest-number s k i h a = λ t. latticePlace (kind-number s k i h t) (λ c. index-number s k i h c t) a
-
 -- a point without a code stands on its lattice place
 pub still-stands : (b : Block) (k : Kind) (i : Axis → ℕ) → Inside (b .sizes) k i → getD (stateOf b) (pointOf b k i) 0 ≡ 0
     → (a : Axis) → pointPlace (b .sizes) (b .cuts) (stateOf b) (pointOf b k i) a ≡ latticePlace k i a
 unfolding pointPlace
-still-stands b k i h e a = rw e (rest-number (b .sizes) k i h a)
-
--- the cut's place from the end of its edge: 256 less t steps back
-from-end : (x y up down t : ℕ) → t < 256 → y + up ≡ x + down
-    → pos (256 * y) +ℤ pos t *ℤ (pos up -ℤ pos down) ≡ pos (256 * x) +ℤ pos (256 - t) *ℤ (pos down -ℤ pos up)
-from-end x y up down t h e =
-    ring (nat (256 * y) ⊕ nat t ⊗ (nat up ⊖ nat down)) (nat (256 * x) ⊕ nat (256 - t) ⊗ (nat down ⊖ nat up))
-    (omega (arith, ap (λ (z : ℕ). z * up) whole, ap (λ (z : ℕ). z * down) whole))
-  where
-    whole : (256 - t) + t ≡ 256
-    whole = omega arith
+still-stands b k i h e a = rw e (rest-along (b .sizes) k i h a)
 
 -- t steps from a lattice place by the code c, t within the code's limit (to warp is the field's word for this move)
 pub record Warped (c : ℕ) (k : Kind) (i : Axis → ℕ) (p : Place) : Type 0 where
@@ -72,13 +59,13 @@ module _ (b : Block) (bytes : Bytes b) (k : Kind) (i : Axis → ℕ) (inside : I
     cut-is : (z : Bool) → isStart c ≡ z → (a : Axis) → cutPlace (b .sizes) (b .cuts) (if z then pointOf b k i else q) (directionOf c) a
         ≡ latticePlace k i a +ℤ pos (from z (cutByte b (byteAt (if z then pointOf b k i else q) (directionOf c)))) *ℤ signed (step c a)
     unfolding cutPlace step latticePlace
-    cut-is true e a = rw (e, rest-number (b .sizes) k i inside a) refl
+    cut-is true e a = rw (e, rest-along (b .sizes) k i inside a) refl
     cut-is false e a =
         rw (e, rest-far)
-        (from-end (doubled k (i a)) (doubled (far .kind) (far .index a)) _ _ (cutByte b (byteAt q (directionOf c))) (bytes _) (rw e at (far .leads a)))
+        (from-end (doubled k (i a)) (doubled (far .kind) (far .index a)) _ _ (cutByte b (byteAt q (directionOf c))) (omega (arith, bytes (byteAt q (directionOf c)))) (rw e at (far .leads a)))
       where
         rest-far : rest (b .sizes) q a ≡ latticePlace (far .kind) (far .index) a
-        rest-far = ap (λ (n : ℕ). rest (b .sizes) n a) (far .is) ∙ rest-number (b .sizes) (far .kind) (far .index) (far .inside) a
+        rest-far = ap (λ (n : ℕ). rest (b .sizes) n a) (far .is) ∙ rest-along (b .sizes) (far .kind) (far .index) (far .inside) a
 
   -- the place of a cut that violates this point
   violating : (done : List ℕ) (c : ℕ) (n : Near) → near (b .sizes) k i c ≡ n → Code c → T (violatedAlong b done (pointOf b k i) c n)

@@ -1,46 +1,29 @@
 -- A point with a code stands on the cut of its edge. Seen from the point itself, that is a number of 256ths along the way of its code:
 -- the way from the end of an edge is the way from its start. Assumes nothing.
 use Prim.Native.Nat.{ℕ, _+_, _*_, _-_, _≤_, _<_}
-use native.Mathlib.Omega.{arith}
 use mathlib.Core.Path.{_≡_, refl, ap, _∙_}
 use mathlib.Core.Bool.{Bool, true, false}
 use mathlib.Core.List.{List}
 use lib.IntN.{ℤ, pos, _+ℤ_, _-ℤ_, _*ℤ_}
 use lib.ListN.{getD}
 use Rattle.basics.specs.Choice.{if_then_else_}
-use Rattle.basics.proofs.Integer.{ring, nat, _⊕_, _⊖_, _⊗_}
 use Rattle.lattice.specs.declared.Sizes.{Sizes}
-use Rattle.lattice.specs.declared.Kind.{Kind}
 use Rattle.lattice.specs.declared.Near.the-variants.{At}
 use Rattle.lattice.specs.Axis.{Axis}
 use Rattle.lattice.specs.Counts.{points}
 use Rattle.lattice.specs.Point.{doubled, Inside, number, kindOf, indexOf}
 use Rattle.lattice.specs.Direction.{Step, reversed, Code, isStart, directionOf, direction, step}
 use Rattle.lattice.specs.Edge.{neighbour, byteAt, edgeByte}
-use Rattle.lattice.proofs.Number.{kind-number, index-number}
 use Rattle.lattice.proofs.Edge.{FarEnd, far}
 use Rattle.moving.specs.Violation.{measured}
+use Rattle.geometry.proofs.FromEnd.{rest-number, from-end}
 use Rattle.geometry.specs.Place.{Place, latticePlace, rest, signed, cutPlace, movedPlace}
 use Rattle.places.specs.Places.{along}
-
--- the place of a point by its kind and indices
-pub rest-number : (s : Sizes) (k : Kind) (i : Axis → ℕ) → Inside s k i → rest s (number s k i) ≡ latticePlace k i
-rest-number s k i h = λ t. latticePlace (kind-number s k i h t) (λ a. index-number s k i h a t)
 
 -- a cut stands so many steps from its start
 pub cut-along : (s : Sizes) (cuts : List ℕ) (p d : ℕ) → cutPlace s cuts p d ≡ along (rest s p) (direction d) (getD cuts (byteAt p d) 0)
 unfolding cutPlace along
 cut-along s cuts p d = refl
-
--- t steps from y lead where 256 less t steps lead back from x, if a whole step leads from y to x
-pub from-end : (x y up down t : ℕ) → t ≤ 256 → y + up ≡ x + down
-    → pos (256 * y) +ℤ pos t *ℤ (pos up -ℤ pos down) ≡ pos (256 * x) +ℤ pos (256 - t) *ℤ (pos down -ℤ pos up)
-from-end x y up down t h e =
-    ring (nat (256 * y) ⊕ nat t ⊗ (nat up ⊖ nat down)) (nat (256 * x) ⊕ nat (256 - t) ⊗ (nat down ⊖ nat up))
-    (omega (arith, ap (λ (z : ℕ). z * up) whole, ap (λ (z : ℕ). z * down) whole))
-  where
-    whole : (256 - t) + t ≡ 256
-    whole = omega arith
 
 module _ (s : Sizes) (cuts : List ℕ) (p c q : ℕ) (h : p < points s) (g : Code c) (e : neighbour s p c ≡ At q)
     (small : getD cuts (edgeByte p c q) 0 ≤ 256) where
