@@ -14,64 +14,32 @@ ghost use Rattle.lattice.specs.Point.{number};
 ghost use Rattle.lattice.specs.Edge.{exists, farKind, farIndex, near, edgeByte};
 ghost use Rattle.lattice.specs.Site.{Sited, index, oddOf, staysBy, shiftAlong, shiftOf, risen, fallen, Stride};
 
-// A line a direction: up along x, y and z, and down.
-const DIRECTIONS: [usize; 42] = [
-    2,
-    0,
-    0,
-    0,
-    0,
-    0,
-    0,
-    2,
-    0,
-    0,
-    0,
-    0,
-    0,
-    0,
-    2,
-    0,
-    0,
-    0,
-    1,
-    1,
-    1,
-    0,
-    0,
-    0,
-    0,
-    1,
-    1,
-    1,
-    0,
-    0,
-    1,
-    0,
-    1,
-    0,
-    1,
-    0,
-    0,
-    0,
-    1,
-    1,
-    1,
-    0,
-];
+// So far up along x, y and z, and so far down.
+fn shift_by(ux: usize, uy: usize, uz: usize, dx: usize, dy: usize, dz: usize) -> Shift
+    ensures { λ r. ⌜ r ≡ record { ux = ux; uy = uy; uz = uz; dx = dx; dy = dy; dz = dz } ⌝ }
+{
+    Shift {
+        ux,
+        uy,
+        uz,
+        dx,
+        dy,
+        dz,
+    }
+}
 
 fn direction(d: usize) -> Shift
     requires { ⌜ d < 7 ⌝ }
     ensures { λ r. ⌜ r ≡ shiftAlong d ⌝ }
 {
-    let at = 6 * d;
-    Shift {
-        ux: DIRECTIONS[at],
-        uy: DIRECTIONS[at + 1],
-        uz: DIRECTIONS[at + 2],
-        dx: DIRECTIONS[at + 3],
-        dy: DIRECTIONS[at + 4],
-        dz: DIRECTIONS[at + 5],
+    match d {
+        0 => shift_by(2, 0, 0, 0, 0, 0),
+        1 => shift_by(0, 2, 0, 0, 0, 0),
+        2 => shift_by(0, 0, 2, 0, 0, 0),
+        3 => shift_by(1, 1, 1, 0, 0, 0),
+        4 => shift_by(0, 1, 1, 1, 0, 0),
+        5 => shift_by(1, 0, 1, 0, 1, 0),
+        _ => shift_by(0, 0, 1, 1, 1, 0),
     }
 }
 

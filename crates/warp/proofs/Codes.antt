@@ -3,7 +3,7 @@ use Prim.Native.Nat.{ℕ, zero, suc, _+_, _*_, _-_, _≤_, _<_}
 use native.Mathlib.Numerals.{add-one}
 use native.Mathlib.Omega.{arith}
 use mathlib.Core.Path.{_≡_, refl, sym, ap, subst, _∙_}
-use mathlib.Core.Bool.{Bool, true, false, not}
+use mathlib.Core.Bool.{Bool, true, false, not, _&&_}
 use mathlib.Core.List.{List, [], _∷_, _++_}
 use lib.Dec.{eqb, ltb}
 use lib.ListN.{length, getD, take, set, length-append, length-set, List·getD-append}
@@ -25,7 +25,7 @@ use Rattle.moving.specs.Moving.{labelAfter, live, violatedAlong, violatedBy, ch
 use Rattle.moving.proofs.Moved.{codes-length}
 use Rattle.filling.specs.Fill.{movedCount}
 use Rattle.audit.specs.Lines.{Line}
-use Rattle.warp.specs.Quick.{Coded, Added}
+use Rattle.warp.specs.Quick.{Coded}
 
 -- an edge's byte is in the table
 pub byte-lt : (n p c q : ℕ) → Code c → p < n → q < n → edgeByte p c q < 7 * n
@@ -36,20 +36,29 @@ byte-lt n p c q h hp hq = go (isStart c)
     go true = omega (arith, direction-lt c h)
     go false = omega (arith, direction-lt c h)
 
--- the three tests of a cut, in the code's order
-module _ (b : Block) (done : List ℕ) (p c q : ℕ) where
-  pub near-still : isZero (labelAfter b done p) ≡ true → false ≡ violatedAlong b done p c (At q)
-  unfolding violatedAlong live
+-- the two tests of a cut that is live, in the code's order
+module _ (b : Block) (done : List ℕ) (p q : ℕ) where
+  pub near-still : isZero (labelAfter b done p) ≡ true → false ≡ live b done p q
+  unfolding live
   near-still e = simp e
 
-  pub far-still : isZero (labelAfter b done p) ≡ false → isZero (labelAfter b done q) ≡ true → false ≡ violatedAlong b done p c (At q)
-  unfolding violatedAlong live
+  pub far-still : isZero (labelAfter b done p) ≡ false → isZero (labelAfter b done q) ≡ true → false ≡ live b done p q
+  unfolding live
   far-still e f = simp (e, f)
 
-  pub both-live : (at : ℕ) → at ≡ edgeByte p c q → isZero (labelAfter b done p) ≡ false → isZero (labelAfter b done q) ≡ false
-      → violates c (cutByte b at) ≡ violatedAlong b done p c (At q)
-  unfolding violatedAlong live
-  both-live at d e f = rw d (simp (e, f))
+  pub both-live : isZero (labelAfter b done p) ≡ false → isZero (labelAfter b done q) ≡ false → true ≡ live b done p q
+  unfolding live
+  both-live e f = simp (e, f)
+
+-- of a byte that violates it is known whether the cut is live
+pub violated-live : (b : Block) (done : List ℕ) (p c q : ℕ) → violates c (cutByte b (edgeByte p c q)) ≡ true
+    → live b done p q ≡ violatedAlong b done p c (At q)
+unfolding violatedAlong
+violated-live b done p c q v = rw v (go (live b done p q))
+  where
+    go : (t : Bool) → t ≡ (t && true)
+    go true = refl
+    go false = refl
 
 -- the search of the point p has come to a code: what is left equals the whole
 pub record Searching (b : Block) (done : List ℕ) (p c : ℕ) : Type 0 where
@@ -160,13 +169,6 @@ module _ (b : Block) where
           counted-next (own + x) c (rw (w .coded .done) at e),
           ap (λ (k : ℕ). movedCount (codes b k)) g,
         );
-      }
-
-  pub walked-whole : {own m n : ℕ} {state : List ℕ} {moved x : ℕ} → Walked own m state moved x → x ≡ n → Added b own n state moved
-  walked-whole {own} {state = state} w e =
-      record {
-        coded = subst (λ (k : ℕ). Coded b (own + k) state) e (w .coded);
-        counted = w .counted ∙ ap (λ (k : ℕ). movedCount (codes b (own + k))) e;
       }
 
   -- the points before p are done, and the line from p on is the next

@@ -1,7 +1,7 @@
 -- A line of points is done, at rest or searched: the codes before the next line stand in the table and are counted. Assumes nothing.
-use Prim.Native.Nat.{ℕ, _+_, _≤_, _<_}
+use Prim.Native.Nat.{ℕ, _+_, _-_, _≤_, _<_}
 use native.Mathlib.Omega.{arith}
-use mathlib.Core.Path.{_≡_, sym, ap, subst, _∙_}
+use mathlib.Core.Path.{_≡_, refl, sym, ap, subst, _∙_}
 use mathlib.Core.List.{List}
 use Rattle.lattice.specs.declared.Site.{Site}
 use Rattle.lattice.specs.Axis.{along-x}
@@ -11,7 +11,7 @@ use Rattle.moving.specs.Moving.{codes}
 use Rattle.filling.specs.Fill.{movedCount}
 use Rattle.audit.specs.Lines.{Line}
 use Rattle.audit.proofs.Lines.{line-own, line-fits}
-use Rattle.warp.specs.Quick.{IdleFrom, Coded, Added}
+use Rattle.warp.specs.Quick.{Idle, Coded}
 use Rattle.warp.proofs.Codes.{Warped}
 use Rattle.warp.proofs.Idle.{idle-counted}
 
@@ -38,35 +38,36 @@ module _ (b : Block) {n : ℕ} {state : List ℕ} {q : Site} {moved p : ℕ} (w 
   after = omega (arith, own)
 
   -- the whole line is idle
-  pub passed-idle : {state' : List ℕ} {moved' : ℕ} {rested : List ℕ} → IdleFrom b (q .own) (q .own + grid (b .sizes) (q .kind) along-x)
-      → ((c : Block) → Coded c p state → IdleFrom c p (p + m) → Coded c (p + m) rested)
+  idle-range : ((x : ℕ) → x < grid (b .sizes) (q .kind) along-x → Idle b (q .own + x)) → (j : ℕ) → p ≤ j → j < p + m → Idle b j
+  idle-range i j l u =
+      let f : q .own + (j - p) ≡ j = omega (arith, own) in
+      subst (Idle b) f (i (j - p) (omega arith))
+
+  pub passed-idle : {state' : List ℕ} {moved' : ℕ} {rested : List ℕ} → ((x : ℕ) → x < grid (b .sizes) (q .kind) along-x → Idle b (q .own + x))
+      → ((c : Block) → Coded c p state → ((j : ℕ) → p ≤ j → j < p + m → Idle c j) → Coded c (p + m) rested)
       → state' ≡ rested → moved' ≡ moved → Passed b (p + m) state' moved'
   passed-idle i r f g =
       record {
-        coded = subst (Coded b (p + m)) (sym f) (r b (w .coded) here);
-        counted = g ∙ w .counted ∙ sym (idle-counted b p m here);
+        coded = subst (Coded b (p + m)) (sym f) (r b (w .coded) (idle-range i));
+        counted = g ∙ w .counted ∙ sym (idle-counted b p m (idle-range i));
       }
-    where
-      here : IdleFrom b p (p + m)
-      here = subst (λ (k : ℕ). IdleFrom b k (p + m)) own (subst (IdleFrom b (q .own)) after i)
-
-  -- what is counted so far and in the line
-  pub walked-few : {walked : List ℕ} (r : ℕ) → Added b (q .own) (grid (b .sizes) (q .kind) along-x) walked r
-      → moved + r ≡ movedCount (codes b (p + m))
-  walked-few r k =
-      omega (
-        arith,
-        w .counted,
-        k .counted,
-        ap (λ (j : ℕ). movedCount (codes b j)) own,
-        ap (λ (j : ℕ). movedCount (codes b j)) after,
-      )
 
   -- the line was searched, and so many of its points move
-  pub passed-walked : {state' : List ℕ} {moved' : ℕ} {walked : List ℕ} (r : ℕ) → Added b (q .own) (grid (b .sizes) (q .kind) along-x) walked r
+  pub passed-walked : {state' : List ℕ} {moved' : ℕ} {walked : List ℕ} (r : ℕ) → Coded b (q .own + grid (b .sizes) (q .kind) along-x) walked
+      → r + movedCount (codes b (q .own)) ≡ movedCount (codes b (q .own + grid (b .sizes) (q .kind) along-x))
       → state' ≡ walked → moved' ≡ moved + r → Passed b (p + m) state' moved'
-  passed-walked {state'} {walked = walked} r k f g =
+  passed-walked {state'} {walked = walked} r k d f g =
       record {
-        coded = subst (Coded b (p + m)) (sym f) (subst (λ (j : ℕ). Coded b j walked) after (k .coded));
-        counted = g ∙ walked-few r k;
+        coded = subst (Coded b (p + m)) (sym f) (subst (λ (j : ℕ). Coded b j walked) after k);
+        counted = omega (
+          arith,
+          w .counted,
+          ap (λ (j : ℕ). movedCount (codes b j)) own,
+          ap (λ (j : ℕ). movedCount (codes b j)) after,
+        );
       }
+
+  -- what is counted so far and in the line is not more than the points
+  pub walked-few : (r : ℕ) → r + movedCount (codes b (q .own)) ≡ movedCount (codes b (q .own + grid (b .sizes) (q .kind) along-x))
+      → moved + r ≡ movedCount (codes b (p + m))
+  walked-few r d = omega (arith, w .counted, ap (λ (j : ℕ). movedCount (codes b j)) own, ap (λ (j : ℕ). movedCount (codes b j)) after)

@@ -3,25 +3,27 @@ use Prim.Native.Nat.{ℕ, _+_, _*_, _-_, _/_, _≤_, _<_}
 use native.Mathlib.Nat.{mul-add, add-mul, mul-le-mul-left, le-mul-of-pos-right}
 use native.Mathlib.Omega.{arith}
 use mathlib.Core.Path.{_≡_, refl, sym, ap, _∙_}
+use mathlib.Core.Logic.{inl, inr}
 use mathlib.Core.Bool.{Bool, true, false}
-use lib.Dec.{eqb}
-use borrow.Author.Tests.{le-leb, lt-leb, ne-eqb}
-use Rattle.basics.proofs.Test.{true-T}
+use mathlib.Core.List.{List, [], _∷_}
+use lib.ListN.{getD}
+use borrow.Author.Tests.{le-leb, lt-leb}
+use Rattle.basics.proofs.Test.{true-T, lt-or}
 use Rattle.lattice.specs.declared.Sizes.{Sizes}
 use Rattle.lattice.specs.declared.Kind.{Kind}
 use Rattle.lattice.specs.declared.Kind.the-variants.{Corner, Centre}
 use Rattle.lattice.specs.declared.Near.the-variants.{At}
 use Rattle.lattice.specs.declared.Site.{Site}
 use Rattle.lattice.specs.Axis.{Axis}
-use Rattle.lattice.specs.Counts.{grid, cells}
+use Rattle.lattice.specs.Counts.{Sized, grid, cells}
 use Rattle.lattice.specs.Point.{other, linear, number}
 use Rattle.lattice.specs.Direction.{Code, directions, direction, long, isStart, directionOf, step}
 use Rattle.lattice.specs.Edge.{exists, farKind, farIndex, near, edgeByte}
 use Rattle.lattice.specs.Site.{Sited, index, oddOf}
 use Rattle.lattice.proofs.Edge.{stays}
-use Rattle.lattice.proofs.Sites.{by-direction, number-add, far-index, near-yes, near-no}
+use Rattle.lattice.proofs.Sites.{by-direction, number-add, far-index, near-yes, near-no, numbers-small}
 use Rattle.audit.specs.Lines.{lineAt}
-use Rattle.warp.specs.Quick.{startBack, startOf, startAt}
+use Rattle.warp.specs.Quick.{startsBack, startsOf, startsAt, Offsets}
 
 -- an edge leads some cells up and some down in the grid of its far end
 strides : (s : Sizes) (k : Kind) (i : Axis → ℕ) (c e : ℕ) → Code c → near s k i c ≡ At e
@@ -43,10 +45,10 @@ ending d h = record { low = omega arith; high = omega arith }
 -- the seven directions that end at a corner, and at a centre
 module _ (s : Sizes) (i : Axis → ℕ) (own low : ℕ) where
   pub corner-starts : own ≡ number s Corner i → low + (s .nx * s .ny + (s .nx + 1)) ≡ number s Centre i → (d : ℕ) → d < 7
-      → (e : ℕ) → near s Corner i (d + 8) ≡ At e → startBack (s .nx + 1) ((s .nx + 1) * (s .ny + 1)) (s .nx) own low d ≡ e
-  unfolding startBack linear farKind long directionOf step isStart direction directions
+      → (e : ℕ) → near s Corner i (d + 8) ≡ At e → getD (startsBack (s .nx + 1) ((s .nx + 1) * (s .ny + 1)) (s .nx) own low) d 0 ≡ e
+  unfolding startsBack linear farKind long directionOf step isStart direction directions
   corner-starts o l =
-      by-direction (λ d. (e : ℕ) → near s Corner i (d + 8) ≡ At e → startBack (s .nx + 1) ((s .nx + 1) * (s .ny + 1)) (s .nx) own low d ≡ e)
+      by-direction (λ d. (e : ℕ) → near s Corner i (d + 8) ≡ At e → getD (startsBack (s .nx + 1) ((s .nx + 1) * (s .ny + 1)) (s .nx) own low) d 0 ≡ e)
       (λ e n. omega (arith, strides s Corner i 8 e (ending 0 (omega arith)) n))
       (λ e n. omega (arith, strides s Corner i 9 e (ending 1 (omega arith)) n))
       (λ e n. omega (arith, strides s Corner i 10 e (ending 2 (omega arith)) n))
@@ -56,10 +58,10 @@ module _ (s : Sizes) (i : Axis → ℕ) (own low : ℕ) where
       (λ e n. omega (arith, strides s Corner i 14 e (ending 6 (omega arith)) n))
 
   pub centre-starts : own ≡ number s Centre i → low ≡ number s Corner i → (d : ℕ) → d < 7
-      → (e : ℕ) → near s Centre i (d + 8) ≡ At e → startBack (s .nx) (s .nx * s .ny) (s .nx + 1) own low d ≡ e
-  unfolding startBack linear farKind long directionOf step isStart direction directions
+      → (e : ℕ) → near s Centre i (d + 8) ≡ At e → getD (startsBack (s .nx) (s .nx * s .ny) (s .nx + 1) own low) d 0 ≡ e
+  unfolding startsBack linear farKind long directionOf step isStart direction directions
   centre-starts o l =
-      by-direction (λ d. (e : ℕ) → near s Centre i (d + 8) ≡ At e → startBack (s .nx) (s .nx * s .ny) (s .nx + 1) own low d ≡ e)
+      by-direction (λ d. (e : ℕ) → near s Centre i (d + 8) ≡ At e → getD (startsBack (s .nx) (s .nx * s .ny) (s .nx + 1) own low) d 0 ≡ e)
       (λ e n. omega (arith, strides s Centre i 8 e (ending 0 (omega arith)) n))
       (λ e n. omega (arith, strides s Centre i 9 e (ending 1 (omega arith)) n))
       (λ e n. omega (arith, strides s Centre i 10 e (ending 2 (omega arith)) n))
@@ -68,20 +70,11 @@ module _ (s : Sizes) (i : Axis → ℕ) (own low : ℕ) where
       (λ e n. omega (arith, strides s Centre i 13 e (ending 5 (omega arith)) n))
       (λ e n. omega (arith, strides s Centre i 14 e (ending 6 (omega arith)) n))
 
-ne : (d k : ℕ) → k < d → eqb d k ≡ false
-ne d k h = ne-eqb d k (λ e. omega arith)
-
--- the last of the seven
-pub back-last : (line layer wide own low d : ℕ) → 6 ≤ d → low + wide + 1 ≡ startBack line layer wide own low d
-unfolding startBack
-back-last line layer wide own low d h =
-    simp (ne d 0 (omega arith), ne d 1 (omega arith), ne d 2 (omega arith), ne d 3 (omega arith), ne d 4 (omega arith), ne d 5 (omega arith))
-
-pub back-small : (line layer wide own low d : ℕ) → own ≤ 1000000 → low ≤ 1000000 → wide ≤ 65 → d < 7
-    → startBack line layer wide own low d ≤ 1100000
-unfolding startBack
+back-small : (line layer wide own low d : ℕ) → own ≤ 1000000 → low ≤ 1000000 → wide ≤ 65 → d < 7
+    → getD (startsBack line layer wide own low) d 0 ≤ 1100000
+unfolding startsBack
 back-small line layer wide own low d h g w =
-    by-direction (λ d. startBack line layer wide own low d ≤ 1100000)
+    by-direction (λ d. getD (startsBack line layer wide own low) d 0 ≤ 1100000)
     (omega arith) (omega arith) (omega arith) (omega arith) (omega arith) (omega arith) (omega arith) d
 
 -- every centre's number is past what a step down from it by one along every axis takes away
@@ -109,51 +102,61 @@ module _ (s : Sizes) (q : Site) (g : Sited s q) where
   pub low-fits : q .kind ≡ Corner → s .nx * s .ny + (s .nx + 1) ≤ q .across
   low-fits k = rw (across-as Corner k) (centre-high s (index q))
 
-  pub site-corner : q .kind ≡ Corner → (d : ℕ) → d < 7 → (r : ℕ)
-      → r ≡ startBack (s .nx + 1) ((s .nx + 1) * (s .ny + 1)) (s .nx) (q .own) (q .across - (s .nx * s .ny + (s .nx + 1))) d
-      → (e : ℕ) → near s (q .kind) (index q) (d + 8) ≡ At e → r ≡ e
-  site-corner k d h r f e n =
-      f ∙ corner-starts s (index q) (q .own) _ (own-as Corner k) (omega (arith, across-as Corner k, low-fits k)) d h e (near-as Corner k (d + 8) e n)
+  -- the starts, by direction
+  pub start-is : (d : ℕ) → d < 7 → (e : ℕ) → near s (q .kind) (index q) (d + 8) ≡ At e → getD (startsAt s q) d 0 ≡ e
+  unfolding startsAt
+  start-is d h e n = go (q .kind) refl
+    where
+      go : (k : Kind) → q .kind ≡ k → getD (startsOf k s q) d 0 ≡ e
+      go Corner k =
+          corner-starts s (index q) (q .own) _ (own-as Corner k) (omega (arith, across-as Corner k, low-fits k)) d h e (near-as Corner k (d + 8) e n)
+      go Centre k = centre-starts s (index q) (q .own) _ (own-as Centre k) (across-as Centre k) d h e (near-as Centre k (d + 8) e n)
 
-  pub site-centre : q .kind ≡ Centre → (d : ℕ) → d < 7 → (r : ℕ)
-      → r ≡ startBack (s .nx) (s .nx * s .ny) (s .nx + 1) (q .own) (q .across) d
-      → (e : ℕ) → near s (q .kind) (index q) (d + 8) ≡ At e → r ≡ e
-  site-centre k d h r f e n = f ∙ centre-starts s (index q) (q .own) _ (own-as Centre k) (across-as Centre k) d h e (near-as Centre k (d + 8) e n)
+  pub start-small : Sized s → (back : List ℕ) → back ≡ startsAt s q → (d : ℕ) → d < 7 → getD back d 0 ≤ 1100000
+  unfolding startsAt
+  start-small z back b d h = rw b (go (q .kind))
+    where
+      m : (q .own ≤ 1000000) × (q .across ≤ 1000000)
+      m = let n = numbers-small s q z g in (n .0, n .1)
+
+      go : (k : Kind) → getD (startsOf k s q) d 0 ≤ 1100000
+      go Corner = back-small _ _ _ _ _ d (m .0) (omega (arith, m .1)) (omega (arith, z .x-high)) h
+      go Centre = back-small _ _ _ _ _ d (m .0) (m .1) (omega (arith, z .x-high)) h
 
 -- the starts as one definition: where those of neighbours along a line stand
 module _ (s : Sizes) (q : Site) where
-  pub start-first : startAt s q 0 ≡ q .own - 1
-  unfolding startAt startBack
+  pub start-first : getD (startsAt s q) 0 0 ≡ q .own - 1
+  unfolding startsAt startsBack
   start-first = go (q .kind)
     where
-      go : (k : Kind) → startOf k s q 0 ≡ q .own - 1
+      go : (k : Kind) → getD (startsOf k s q) 0 0 ≡ q .own - 1
       go Corner = refl
       go Centre = refl
 
-  pub start-fourth : startAt s q 4 ≡ startAt s q 3 + 1
-  unfolding startAt startBack
+  pub start-fourth : getD (startsAt s q) 4 0 ≡ getD (startsAt s q) 3 0 + 1
+  unfolding startsAt startsBack
   start-fourth = go (q .kind)
     where
-      go : (k : Kind) → startOf k s q 4 ≡ startOf k s q 3 + 1
+      go : (k : Kind) → getD (startsOf k s q) 4 0 ≡ getD (startsOf k s q) 3 0 + 1
       go Corner = refl
       go Centre = refl
 
-  pub start-sixth : startAt s q 6 ≡ startAt s q 5 + 1
-  unfolding startAt startBack
+  pub start-sixth : getD (startsAt s q) 6 0 ≡ getD (startsAt s q) 5 0 + 1
+  unfolding startsAt startsBack
   start-sixth = go (q .kind)
     where
-      go : (k : Kind) → startOf k s q 6 ≡ startOf k s q 5 + 1
+      go : (k : Kind) → getD (startsOf k s q) 6 0 ≡ getD (startsOf k s q) 5 0 + 1
       go Corner = refl
       go Centre = refl
 
 -- x numbers further along both grids
 back-within : (line layer wide own low high x d : ℕ) → high ≡ low + x → d < 7
-    → (startBack line layer wide own low d ≤ startBack line layer wide (own + x) high d)
-    × (startBack line layer wide (own + x) high d ≤ startBack line layer wide own low d + x)
-unfolding startBack
+    → (getD (startsBack line layer wide own low) d 0 ≤ getD (startsBack line layer wide (own + x) high) d 0)
+    × (getD (startsBack line layer wide (own + x) high) d 0 ≤ getD (startsBack line layer wide own low) d 0 + x)
+unfolding startsBack
 back-within line layer wide own low high x d h =
-    by-direction (λ d. (startBack line layer wide own low d ≤ startBack line layer wide (own + x) high d)
-    × (startBack line layer wide (own + x) high d ≤ startBack line layer wide own low d + x))
+    by-direction (λ d. (getD (startsBack line layer wide own low) d 0 ≤ getD (startsBack line layer wide (own + x) high) d 0)
+    × (getD (startsBack line layer wide (own + x) high) d 0 ≤ getD (startsBack line layer wide own low) d 0 + x))
     (omega arith, omega arith)
     (omega arith, omega arith)
     (omega arith, omega arith)
@@ -164,20 +167,21 @@ back-within line layer wide own low high x d h =
     d
 
 pub start-within : (s : Sizes) (q : Site) → Sited s q → (x : ℕ) → Sited s (lineAt q x) → (d : ℕ) → d < 7
-    → (e : ℕ) → near s (q .kind) (index (lineAt q x)) (d + 8) ≡ At e → (startAt s q d ≤ e) × (e ≤ startAt s q d + x)
-unfolding startAt
-start-within s q g x f d h e n = go (q .kind) refl
+    → (e : ℕ) → near s (q .kind) (index (lineAt q x)) (d + 8) ≡ At e → (getD (startsAt s q) d 0 ≤ e) × (e ≤ getD (startsAt s q) d 0 + x)
+unfolding startsAt
+start-within s q g x f d h e n = go (q .kind) refl is
   where
     further : q .kind ≡ Corner → q .across + x - (s .nx * s .ny + (s .nx + 1)) ≡ q .across - (s .nx * s .ny + (s .nx + 1)) + x
     further k = omega (arith, low-fits s q g k)
 
-    go : (k : Kind) → q .kind ≡ k → (startOf k s q d ≤ e) × (e ≤ startOf k s q d + x)
-    go Corner k =
-        let w = site-corner s (lineAt q x) f k d h _ refl e n in
+    is : getD (startsAt s (lineAt q x)) d 0 ≡ e
+    is = start-is s (lineAt q x) f d h e n
+
+    go : (k : Kind) → q .kind ≡ k → getD (startsOf k s (lineAt q x)) d 0 ≡ e → (getD (startsOf k s q) d 0 ≤ e) × (e ≤ getD (startsOf k s q) d 0 + x)
+    go Corner k w =
         let b = back-within (s .nx + 1) ((s .nx + 1) * (s .ny + 1)) (s .nx) (q .own) _ _ x d (further k) h in
         (omega arith, omega arith)
-    go Centre k =
-        let w = site-centre s (lineAt q x) f k d h _ refl e n in
+    go Centre k w =
         let b = back-within (s .nx) (s .nx * s .ny) (s .nx + 1) (q .own) (q .across) (q .across + x) x d refl h in
         (omega arith, omega arith)
 
@@ -189,3 +193,47 @@ byte-start p c e l h = simp (le-leb _ _ h) (omega arith)
 pub byte-end : (p c e : ℕ) → 7 < c → c ≤ 14 → 7 * e + (c - 8) ≡ edgeByte p c e
 unfolding edgeByte isStart directionOf
 byte-end p c e l h = simp (lt-leb _ _ l) (omega arith)
+
+-- the fourteen offsets, as the code writes them: seven of edges that start at a point, seven of edges that end there
+abbrev pub offsetsFrom : ℕ → List ℕ → List ℕ
+offsetsFrom own back =
+    (7 * own)
+    ∷ (7 * own + 1)
+    ∷ (7 * own + 2)
+    ∷ (7 * own + 3)
+    ∷ (7 * own + 4)
+    ∷ (7 * own + 5)
+    ∷ (7 * own + 6)
+    ∷ (7 * getD back 0 0)
+    ∷ (7 * getD back 1 0 + 1)
+    ∷ (7 * getD back 2 0 + 2)
+    ∷ (7 * getD back 3 0 + 3)
+    ∷ (7 * getD back 4 0 + 4)
+    ∷ (7 * getD back 5 0 + 5)
+    ∷ (7 * getD back 6 0 + 6)
+    ∷ []
+
+offsets-start : (own : ℕ) (back : List ℕ) (d : ℕ) → d < 7 → getD (offsetsFrom own back) d 0 ≡ 7 * own + d
+offsets-start own back =
+    by-direction (λ d. getD (offsetsFrom own back) d 0 ≡ 7 * own + d) (omega arith) refl refl refl refl refl refl
+
+offsets-end : (own : ℕ) (back : List ℕ) (d : ℕ) → d < 7 → getD (offsetsFrom own back) (d + 7) 0 ≡ 7 * getD back d 0 + d
+offsets-end own back =
+    by-direction (λ d. getD (offsetsFrom own back) (d + 7) 0 ≡ 7 * getD back d 0 + d) (omega arith) refl refl refl refl refl refl
+
+pub offsets-of : (s : Sizes) (q : Site) → Sited s q → (back : List ℕ) → back ≡ startsAt s q → Offsets s q (offsetsFrom (q .own) back)
+offsets-of s q g back b = record { byte = byte }
+  where
+    byte : (c : ℕ) → Code c → (e : ℕ) → near s (q .kind) (index q) c ≡ At e → getD (offsetsFrom (q .own) back) (c - 1) 0 ≡ edgeByte (q .own) c e
+    byte c k e n =
+        elim (lt-or 7 c) [
+          | inl u ↦
+              let x : c - 8 + 8 ≡ c = omega (arith, k .high) in
+              let y : c - 1 ≡ c - 8 + 7 = omega arith in
+              let w = start-is s q g (c - 8) (omega (arith, k .high)) e (ap (near s (q .kind) (index q)) x ∙ n) in
+              ap (λ (i : ℕ). getD (offsetsFrom (q .own) back) i 0) y
+              ∙ offsets-end (q .own) back (c - 8) (omega (arith, k .high))
+              ∙ ap (λ (i : ℕ). 7 * i + (c - 8)) (ap (λ (l : List ℕ). getD l (c - 8) 0) b ∙ w)
+              ∙ byte-end (q .own) c e u (k .high)
+          | inr u ↦ offsets-start (q .own) back (c - 1) (omega (arith, k .low)) ∙ byte-start (q .own) c e (k .low) u
+        ]

@@ -11,15 +11,12 @@ ghost use mathlib.Core.List.{List};
 ghost use Prim.Native.Nat.{ℕ, _+_, _*_, _-_, _<_, _≤_};
 ghost use lib.IntN.{ℤ};
 ghost use lib.ListN.{getD};
-ghost use Rattle.lattice.specs.declared.Near.the-variants.{At};
 ghost use Rattle.lattice.specs.Axis.{along-x};
 ghost use Rattle.lattice.specs.Counts.{Sized, grid};
-ghost use Rattle.lattice.specs.Direction.{Code};
-ghost use Rattle.lattice.specs.Edge.{near, edgeByte};
-ghost use Rattle.lattice.specs.Site.{Sited, index};
+ghost use Rattle.lattice.specs.Site.{Sited};
 ghost use Rattle.moving.specs.Block.{blockOf};
 ghost use Rattle.audit.specs.Lines.{Line};
-ghost use Rattle.warp.specs.Quick.{startBack, startAt, About, Uncut, IdleFrom};
+ghost use Rattle.warp.specs.Quick.{startsBack, startsAt, Offsets, Uncut, Idle};
 
 // So many numbers before p, or 0.
 fn before(p: usize, stride: usize) -> usize
@@ -28,30 +25,24 @@ fn before(p: usize, stride: usize) -> usize
     if stride <= p { p - stride } else { 0 }
 }
 
-// The start of the edge in direction d that ends at a point.
-fn start_back(line: usize, layer: usize, wide: usize, own: usize, low: usize, d: usize) -> usize
+// The starts of the seven edges that end at a point, by direction.
+fn starts_back(line: usize, layer: usize, wide: usize, own: usize, low: usize) -> [usize; 7]
     requires { ⌜ (own ≤ 1000000) × (low ≤ 1000000) × (wide ≤ 65) ⌝ }
-    ensures { λ r. ⌜ r ≡ startBack line layer wide own low d ⌝ }
+    ensures { λ r. ⌜ r ≡ startsBack line layer wide own low ⌝ }
 {
-    match d {
-        0 => before(own, 1),
-        1 => before(own, line),
-        2 => before(own, layer),
-        3 => low,
-        4 => low + 1,
-        5 => low + wide,
-        _ => low + wide + 1,
-    }
+    let along_x = before(own, 1);
+    let along_y = before(own, line);
+    let along_z = before(own, layer);
+    let high = low + wide;
+    [along_x, along_y, along_z, low, low + 1, high, high + 1]
 }
 
 // The same from the sizes: a corner is the end of edges from the eight centres about it, a centre
 // from the corners of its cube.
-fn start_of(s: Sizes, q: Site, d: usize) -> usize
+fn starts(s: Sizes, q: Site) -> [usize; 7]
     requires { ⌜ Sized s ⌝ }
     requires { ⌜ Sited s q ⌝ }
-    requires { ⌜ d < 7 ⌝ }
-    ensures { λ r. ⌜ ((e : ℕ) → near s (q .kind) (index q) (d + 8) ≡ At e → r ≡ e) × (r ≤ 1100000) ⌝ }
-    ensures { λ r. ⌜ r ≡ startAt s q d ⌝ }
+    ensures { λ r. ⌜ r ≡ startsAt s q ⌝ }
 {
     let kind = q.kind;
     match kind {
@@ -60,67 +51,50 @@ fn start_of(s: Sizes, q: Site, d: usize) -> usize
             let line = wide + 1;
             let layer = line * (s.ny + 1);
             let low = q.across - (wide * s.ny + line);
-            start_back(line, layer, wide, q.own, low, d)
+            starts_back(line, layer, wide, q.own, low)
         }
         Kind::Centre => {
             let line = s.nx;
             let layer = line * s.ny;
-            start_back(line, layer, line + 1, q.own, q.across, d)
+            starts_back(line, layer, line + 1, q.own, q.across)
         }
     }
 }
 
-// Where the byte of the edge by a code stands, if the edge exists.
-fn byte_of(s: Sizes, q: Site, code: usize) -> usize
+// Where the bytes of a point's fourteen edges stand, by code, each if its edge exists.
+pub fn offsets(s: Sizes, q: Site) -> [usize; 14]
     requires { ⌜ Sized s ⌝ }
     requires { ⌜ Sited s q ⌝ }
-    requires { ⌜ Code code ⌝ }
-    ensures { λ r. ⌜ ((e : ℕ) → near s (q .kind) (index q) code ≡ At e → r ≡ edgeByte (q .own) code e) ⌝ }
+    ensures { λ r. ⌜ Offsets s q r ⌝ }
 {
-    if code <= 7 {
-        return 7 * q.own + (code - 1);
-    }
-    let d = code - 8;
-    let start = start_of(s, q, d);
-    7 * start + d
+    let back = starts(s, q);
+    let first = 7 * q.own;
+    [
+        first,
+        first + 1,
+        first + 2,
+        first + 3,
+        first + 4,
+        first + 5,
+        first + 6,
+        7 * back[0],
+        7 * back[1] + 1,
+        7 * back[2] + 2,
+        7 * back[3] + 3,
+        7 * back[4] + 4,
+        7 * back[5] + 5,
+        7 * back[6] + 6,
+    ]
 }
 
-// The cut byte of the edge by a code, if the edge exists.
-fn cut_by(s: Sizes, cuts: &[u8], q: Site, code: usize) -> u8
-    requires { ⌜ Sized s ⌝ }
-    requires { ⌜ Sited s q ⌝ }
-    requires { ⌜ Code code ⌝ }
-    ensures { λ r. ⌜ ((e : ℕ) → near s (q .kind) (index q) code ≡ At e → r ≡ getD (now (cuts .entry)) (edgeByte (q .own) code e) 0) ⌝ }
+// The byte at an offset, or 0 past the end of the table.
+pub fn cut_at(cuts: &[u8], at: usize) -> u8
+    ensures { λ r. ⌜ r ≡ getD (now (cuts .entry)) at 0 ⌝ }
 {
-    let at = byte_of(s, q, code);
     if at < cuts.len() {
         return cuts[at];
     }
     0
-}
-
-// The cut bytes of a point's fourteen edges, in code order.
-pub fn cuts_about(s: Sizes, cuts: &[u8], q: Site) -> [u8; 14]
-    requires { ⌜ Sized s ⌝ }
-    requires { ⌜ Sited s q ⌝ }
-    ensures { λ r. ⌜ About s (now (cuts .entry)) q r ⌝ }
-{
-    [
-        cut_by(s, cuts, q, 1),
-        cut_by(s, cuts, q, 2),
-        cut_by(s, cuts, q, 3),
-        cut_by(s, cuts, q, 4),
-        cut_by(s, cuts, q, 5),
-        cut_by(s, cuts, q, 6),
-        cut_by(s, cuts, q, 7),
-        cut_by(s, cuts, q, 8),
-        cut_by(s, cuts, q, 9),
-        cut_by(s, cuts, q, 10),
-        cut_by(s, cuts, q, 11),
-        cut_by(s, cuts, q, 12),
-        cut_by(s, cuts, q, 13),
-        cut_by(s, cuts, q, 14),
-    ]
 }
 
 // No cut starts at any of m + 1 points from one on.
@@ -136,15 +110,16 @@ fn is_uncut(cuts: &[u8], from: usize, m: usize) -> bool
 pub fn is_idle_line(s: Sizes, cuts: &[u8], q: Site) -> bool
     requires { ⌜ Sized s ⌝ }
     requires { ⌜ Line s (q .own) q ⌝ }
-    ensures { λ r. ⌜ (r ≡ true → (a : List ℤ) → IdleFrom (blockOf s a (now (cuts .entry))) (q .own) (q .own + grid s (q .kind) along-x)) ⌝ }
+    ensures { λ r. ⌜ (r ≡ true → (samples : List ℤ) (x : ℕ) → x < grid s (q .kind) along-x → Idle (blockOf s samples (now (cuts .entry))) (q .own + x)) ⌝ }
 {
     let kind = q.kind;
     let m = walk::line_length(s, kind);
-    if is_uncut(cuts, start_of(s, q, 0), m) {
-        if is_uncut(cuts, start_of(s, q, 1), m) {
-            if is_uncut(cuts, start_of(s, q, 2), m) {
-                if is_uncut(cuts, start_of(s, q, 3), m) {
-                    return is_uncut(cuts, start_of(s, q, 5), m);
+    let back = starts(s, q);
+    if is_uncut(cuts, back[0], m) {
+        if is_uncut(cuts, back[1], m) {
+            if is_uncut(cuts, back[2], m) {
+                if is_uncut(cuts, back[3], m) {
+                    return is_uncut(cuts, back[5], m);
                 }
             }
         }

@@ -11,8 +11,8 @@ use lattice::numbers;
 ghost use mathlib.Core.Path.{_≡_};
 ghost use mathlib.Core.Bool.{true};
 ghost use mathlib.Core.List.{List};
-ghost use Prim.Native.Nat.{ℕ, _<_, _≤_};
-ghost use lib.ListN.{length, getD};
+ghost use Prim.Native.Nat.{ℕ, _+_, _<_, _≤_};
+ghost use lib.ListN.{length};
 ghost use Rattle.lattice.specs.declared.Sizes.{Sizes};
 ghost use Rattle.lattice.specs.declared.Near.the-variants.{At};
 ghost use Rattle.lattice.specs.Axis.{along-x};
@@ -22,10 +22,10 @@ ghost use Rattle.lattice.specs.Edge.{near, edgeByte};
 ghost use Rattle.lattice.specs.Site.{Sited, index};
 ghost use Rattle.moving.specs.Block.{Block, blockOf, Tabled};
 ghost use Rattle.moving.specs.Label.{isZero};
-ghost use Rattle.moving.specs.Moving.{labelAfter, violatedAlong, violatedBy, stateOf};
+ghost use Rattle.moving.specs.Moving.{labelAfter, live, violatedBy, codes, stateOf};
 ghost use Rattle.filling.specs.Fill.{movedCount};
 ghost use Rattle.audit.specs.Lines.{Line};
-ghost use Rattle.warp.specs.Quick.{IdleFrom, IdleBy, Coded, Added};
+ghost use Rattle.warp.specs.Quick.{Spared, Idle, Coded};
 
 // A point's label is zero: its sample is, or it is among the points done and has moved. Sizes and
 // cuts do not enter.
@@ -42,20 +42,10 @@ fn is_still(samples: &[i16], done: &[u8], p: usize) -> bool
     false
 }
 
-// The cut between p and q is live and violates p.
-fn is_violated_along(
-    s: Sizes,
-    samples: &[i16],
-    cuts: &[u8],
-    done: &[u8],
-    p: usize,
-    code: usize,
-    q: usize,
-) -> bool
-    requires { ⌜ Tabled (blockOf s (now samples) (now cuts)) ⌝ }
-    requires { ⌜ Code code ⌝ }
-    requires { ⌜ (p < points s) × (q < points s) ⌝ }
-    ensures { λ r. ⌜ r ≡ violatedAlong (blockOf s (now (samples .entry)) (now (cuts .entry))) (now (done .entry)) p code (At q) ⌝ }
+// A cut between p and q is live: neither label is zero. Sizes and cuts do not enter.
+fn is_live(samples: &[i16], done: &[u8], p: usize, q: usize) -> bool
+    requires { ⌜ (p < length (now samples)) × (q < length (now samples)) ⌝ }
+    ensures { λ r. ⌜ ((s : Sizes) (cuts : List ℕ) → r ≡ live (blockOf s (now (samples .entry)) cuts) (now (done .entry)) p q) ⌝ }
 {
     if is_still(samples, done, p) {
         return false;
@@ -63,33 +53,11 @@ fn is_violated_along(
     if is_still(samples, done, q) {
         return false;
     }
-    let at = edges::edge_byte(p, code, q);
-    violation::violates(code, cuts[at])
+    true
 }
 
-// The edge by a code exists, its cut is live and violates the point.
-fn is_violated_far(
-    s: Sizes,
-    samples: &[i16],
-    cuts: &[u8],
-    done: &[u8],
-    q: Site,
-    code: usize,
-) -> bool
-    requires { ⌜ Tabled (blockOf s (now samples) (now cuts)) ⌝ }
-    requires { ⌜ Code code ⌝ }
-    requires { ⌜ Sited s q ⌝ }
-    ensures { λ r. ⌜ r ≡ violatedBy (blockOf s (now (samples .entry)) (now (cuts .entry))) (now (done .entry)) (q .own) code ⌝ }
-{
-    let far = edges::neighbour(s, q, code);
-    match far {
-        Near::Nothing => false,
-        Near::At(e) => is_violated_along(s, samples, cuts, done, q.own, code, e),
-    }
-}
-
-// The same for a byte t that is the edge's if there is one, asking first whether it violates at all:
-// then few neighbours are looked up.
+// The edge by a code exists, its cut is live and violates the point. The byte is asked first: then few
+// neighbours are looked up.
 fn is_violated(
     s: Sizes,
     samples: &[i16],
@@ -97,43 +65,51 @@ fn is_violated(
     done: &[u8],
     q: Site,
     code: usize,
-    t: u8,
+    at: usize,
 ) -> bool
     requires { ⌜ Tabled (blockOf s (now samples) (now cuts)) ⌝ }
     requires { ⌜ Code code ⌝ }
     requires { ⌜ Sited s q ⌝ }
-    requires { ⌜ ((e : ℕ) → near s (q .kind) (index q) code ≡ At e → t ≡ getD (now cuts) (edgeByte (q .own) code e) 0) ⌝ }
+    requires { ⌜ ((e : ℕ) → near s (q .kind) (index q) code ≡ At e → at ≡ edgeByte (q .own) code e) ⌝ }
     ensures { λ r. ⌜ r ≡ violatedBy (blockOf s (now (samples .entry)) (now (cuts .entry))) (now (done .entry)) (q .own) code ⌝ }
 {
+    let t = bytes::cut_at(cuts, at);
     if violation::violates(code, t) {
-        return is_violated_far(s, samples, cuts, done, q, code);
+        let far = edges::neighbour(s, q, code);
+        match far {
+            Near::Nothing => false,
+            Near::At(e) => is_live(samples, done, q.own, e),
+        }
+    } else {
+        false
     }
-    false
 }
 
-// Nothing has to be searched: the sample is zero, or no cut stands on any of the fourteen edges.
-fn is_idle(samples: &[i16], p: usize, about: [u8; 14]) -> bool
-    requires { ⌜ (p < length (now samples)) × (length (now samples) ≤ 1000000) ⌝ }
-    ensures { λ r. ⌜ (r ≡ true → IdleBy (now (samples .entry)) p about) ⌝ }
+// The first code whose byte violates the point, whatever the labels, or 15. No test ends early, so
+// that the compiler unrolls the loop and branches nowhere.
+fn first_near(cuts: &[u8], at: [usize; 14]) -> u8
+    ensures { λ r. ⌜ (1 ≤ r) × (r ≤ 15) ⌝ }
+    ensures { λ r. ⌜ Spared (now (cuts .entry)) at r ⌝ }
 {
-    if samples[p] == 0 {
-        return true;
-    }
+    let mut first: usize = 15;
     for k in 0..14 {
-        if about[k] != 0 {
-            return false;
+        let code = 14 - k;
+        if violation::violates(code, bytes::cut_at(cuts, at[code - 1])) {
+            first = code;
         }
     }
-    true
+    first as u8
 }
 
 // The codes of a line of points, where the codes before it stand in the table; the search of a point
-// stops at the first code that violates. The answer counts the points that move.
+// stops at the first code that violates, and passes over those whose bytes do not. The answer counts
+// the points that move.
 fn warp_line(s: Sizes, samples: &[i16], cuts: &[u8], state: &mut [u8], q: Site) -> usize
     requires { ⌜ Tabled (blockOf s (now samples) (now cuts)) ⌝ }
     requires { ⌜ Line s (q .own) q ⌝ }
     requires { ⌜ Coded (blockOf s (now samples) (now cuts)) (q .own) (now state) ⌝ }
-    ensures { λ r. ⌜ Added (blockOf s (now (samples .entry)) (now (cuts .entry))) (q .own) (grid s (q .kind) along-x) (now (state .exit)) r ⌝ }
+    ensures { λ r. ⌜ Coded (blockOf s (now (samples .entry)) (now (cuts .entry))) (q .own + grid s (q .kind) along-x) (now (state .exit)) ⌝ }
+    ensures { λ r. ⌜ r + movedCount (codes (blockOf s (now (samples .entry)) (now (cuts .entry))) (q .own)) ≡ movedCount (codes (blockOf s (now (samples .entry)) (now (cuts .entry))) (q .own + grid s (q .kind) along-x)) ⌝ }
 {
     let kind = q.kind;
     let own = q.own;
@@ -142,17 +118,14 @@ fn warp_line(s: Sizes, samples: &[i16], cuts: &[u8], state: &mut [u8], q: Site) 
     for x in 0..m {
         let p = own + x;
         let here = walk::along(q, x);
-        let about = bytes::cuts_about(s, cuts, here);
-        let mut code: u8 = 1;
-        if is_idle(samples, p, about) {
-            code = 15;
-        }
+        let at = bytes::offsets(s, here);
+        let mut code = first_near(cuts, at);
         let found = 'search: loop {
             if 14 < code {
                 break 'search 0;
             }
             let c = code as usize;
-            if is_violated(s, samples, cuts, &state[..p], here, c, about[c - 1]) {
+            if is_violated(s, samples, cuts, &state[..p], here, c, at[c - 1]) {
                 break 'search code;
             }
             code += 1;
@@ -168,7 +141,7 @@ fn warp_line(s: Sizes, samples: &[i16], cuts: &[u8], state: &mut [u8], q: Site) 
 // The codes of points that do not move.
 fn rest(state: &mut [u8], from: usize, to: usize)
     requires { ⌜ (from ≤ to) × (to ≤ length (now state)) ⌝ }
-    ensures { λ r. ⌜ ((b : Block) → Coded b from (now (state .entry)) → IdleFrom b from to → Coded b to (now (state .exit))) ⌝ }
+    ensures { λ r. ⌜ ((b : Block) → Coded b from (now (state .entry)) → ((p : ℕ) → from ≤ p → p < to → Idle b p) → Coded b to (now (state .exit))) ⌝ }
 {
     for p in from..to {
         state[p] = 0;

@@ -10,12 +10,13 @@ fn limit(d: usize) -> usize
     if d < 3 { 63 } else { 105 }
 }
 
-// How far a cut is from the end at which a point with this code is.
-fn measured(code: usize, t: u8) -> usize
-    ensures { λ r. ⌜ r ≡ measured code t ⌝ }
+// How far a cut is from the end at which a point with this code is, or 256 where there is no cut: so
+// the compiler needs no branch for the bytes that are 0.
+fn distance(code: usize, t: u8) -> usize
+    ensures { λ r. ⌜ (t ≡ 0 → r ≡ 256) × ((t ≡ 0 → ⊥) → r ≡ measured code t) ⌝ }
 {
     if code <= 7 {
-        t as usize
+        (t as usize + 255) % 256 + 1
     } else {
         256 - (t as usize)
     }
@@ -26,8 +27,5 @@ pub fn violates(code: usize, t: u8) -> bool
     requires { ⌜ Code code ⌝ }
     ensures { λ r. ⌜ r ≡ violates code t ⌝ }
 {
-    if t == 0 {
-        return false;
-    }
-    measured(code, t) <= limit((code - 1) % 7)
+    distance(code, t) <= limit((code - 1) % 7)
 }

@@ -4,7 +4,8 @@ use mathlib.Core.Path.{sym, subst}
 use lib.Dec.{T}
 use Rattle.audit.proofs.Points.{sited}
 use Rattle.audit.proofs.Lines.{line-stands}
-use Rattle.warp.proofs.Idle.{uncut-from, idle-line}
+use Rattle.warp.proofs.Starts.{start-small}
+use Rattle.warp.proofs.Idle.{idle-line}
 use borrow.Author.Needs.{needs}
 use Rattle.warp.proofs.bytes.is_idle_line.Statement.{statement}
 use Rattle.warp.proofs.bytes.is_idle_line.Tie as tie
@@ -12,55 +13,79 @@ use Rattle.warp.proofs.bytes.is_idle_line.Tie as tie
 line-length-requires : tie.Need-line-length-requires
 line-length-requires c κs = search needs
 
-start-of-requires : tie.Need-start-of-requires
-start-of-requires c κs = let a = c .before .before in (a .pre .0, (sited (line-stands (a .pre .1)), omega arith))
+starts-requires : tie.Need-starts-requires
+starts-requires c κs = let a = c .before .before in (a .pre .0, sited (line-stands (a .pre .1)))
+
+array-read-is-uncut : tie.Need-array-read-is-uncut
+array-read-is-uncut c = search needs
 
 is-uncut-requires : tie.Need-is-uncut-requires
-is-uncut-requires c κs = search needs
+is-uncut-requires c κs =
+    let a = c .before .before .before in
+    let g = sited (line-stands (a .pre .1)) in (
+      start-small (a .args .s) (a .args .q) g (a .pre .0) _ (c .starts .ensures) 0 (omega arith),
+      c .before .line-length .ensures .1 .1,
+    )
 
-start-of-requires-2 : tie.Need-start-of-requires-2
-start-of-requires-2 c κs = let a = c .before .before .before .before .before in (a .pre .0, (sited (line-stands (a .pre .1)), omega arith))
+array-read-is-uncut-2 : tie.Need-array-read-is-uncut-2
+array-read-is-uncut-2 c = search needs
 
 is-uncut-requires-2 : tie.Need-is-uncut-requires-2
-is-uncut-requires-2 c κs = search needs
+is-uncut-requires-2 c κs =
+    let a = c .before .before .before .before .before in
+    let g = sited (line-stands (a .pre .1)) in (
+      start-small (a .args .s) (a .args .q) g (a .pre .0) _ (c .before .before .starts .ensures) 1 (omega arith),
+      c .before .before .before .line-length .ensures .1 .1,
+    )
 
-start-of-requires-3 : tie.Need-start-of-requires-3
-start-of-requires-3 c κs =
-    let c7 = c .before .before .before .before .before .before .before in
-    let a = c7 .before in (a .pre .0, (sited (line-stands (a .pre .1)), omega arith))
+array-read-is-uncut-3 : tie.Need-array-read-is-uncut-3
+array-read-is-uncut-3 c = search needs
 
 is-uncut-requires-3 : tie.Need-is-uncut-requires-3
-is-uncut-requires-3 c κs = search needs
+is-uncut-requires-3 c κs =
+    let a = c .before .before .before .before .before .before .before in
+    let g = sited (line-stands (a .pre .1)) in (
+      start-small (a .args .s) (a .args .q) g (a .pre .0) _ (c .before .before .before .before .starts .ensures) 2 (omega arith),
+      c .before .before .before .before .before .line-length .ensures .1 .1,
+    )
 
-start-of-requires-4 : tie.Need-start-of-requires-4
-start-of-requires-4 c κs =
-    let c7 = c .before .before .before .before .before .before .before in
-    let a = c7 .before .before .before .before in (a .pre .0, (sited (line-stands (a .pre .1)), omega arith))
+array-read-is-uncut-4 : tie.Need-array-read-is-uncut-4
+array-read-is-uncut-4 c = search needs
 
 is-uncut-requires-4 : tie.Need-is-uncut-requires-4
-is-uncut-requires-4 c κs = search needs
+is-uncut-requires-4 c κs =
+    let a = c .before .before .before .before .before .before .before .before .before in
+    let g = sited (line-stands (a .pre .1)) in (
+      start-small (a .args .s) (a .args .q) g (a .pre .0) _ (c .before .before .before .before .before .before .starts .ensures) 3 (omega arith),
+      c .before .before .before .before .before .before .before .line-length .ensures .1 .1,
+    )
 
-start-of-requires-5 : tie.Need-start-of-requires-5
-start-of-requires-5 c κs =
-    let c7 = c .before .before .before .before .before .before .before in
-    let a = c7 .before .before .before .before .before .before .before in (a .pre .0, (sited (line-stands (a .pre .1)), omega arith))
+array-read-is-uncut-5 : tie.Need-array-read-is-uncut-5
+array-read-is-uncut-5 c = search needs
 
 is-uncut-requires-5 : tie.Need-is-uncut-requires-5
-is-uncut-requires-5 c κs = search needs
+is-uncut-requires-5 c κs =
+    let l = c .before .before .before .before .before .before .before .before in
+    let a = l .before .before .before in
+    let g = sited (line-stands (a .pre .1)) in (
+      start-small (a .args .s) (a .args .q) g (a .pre .0) _ (l .starts .ensures) 5 (omega arith),
+      c .before .before .before .before .before .before .before .before .before .line-length .ensures .1 .1,
+    )
 
 returns : tie.Need-returns
 returns c =
-    let c3 = c .before .before .before in
-    let c6 = c3 .before .before .before in
-    let c9 = c6 .before .before .before in
-    let c12 = c9 .before .before .before in
-    let a = c12 .before .before .before .before in
-    λ t. idle-line (a .args .s) (a .args .q) (a .pre .0) (a .pre .1) _ (c12 .before .before .line-length .ensures .0) _
-    (uncut-from (c12 .before .start-of .ensures .1) (c12 .is-uncut .ensures (c9 .before .before .if1 .taken)))
-    (uncut-from (c9 .before .start-of2 .ensures .1) (c9 .is-uncut2 .ensures (c6 .before .before .if2 .taken)))
-    (uncut-from (c6 .before .start-of3 .ensures .1) (c6 .is-uncut3 .ensures (c3 .before .before .if3 .taken)))
-    (uncut-from (c3 .before .start-of4 .ensures .1) (c3 .is-uncut4 .ensures (c .before .before .if4 .taken)))
-    (uncut-from (c .before .start-of5 .ensures .1) (c .is-uncut5 .ensures t))
+    let c2 = c .before .before in
+    let c4 = c2 .before .before in
+    let c6 = c4 .before .before in
+    let c8 = c6 .before .before in
+    let l = c8 .before in
+    let a = l .before .before .before in
+    λ t. idle-line (a .args .s) (a .args .q) (a .pre .0) (a .pre .1) _ (l .before .line-length .ensures .0) _ (l .starts .ensures) _
+    (c8 .is-uncut .ensures (c6 .before .if1 .taken))
+    (c6 .is-uncut2 .ensures (c4 .before .if2 .taken))
+    (c4 .is-uncut3 .ensures (c2 .before .if3 .taken))
+    (c2 .is-uncut4 .ensures (c .before .if4 .taken))
+    (c .is-uncut5 .ensures t)
 
 returns-2 : tie.Need-returns-2
 returns-2 c = λ t. absurd (subst T (sym t) tt)
@@ -79,15 +104,16 @@ is-idle-line-spec =
     tie.close
     (tie.spec
     line-length-requires
-    start-of-requires
+    starts-requires
+    array-read-is-uncut
     is-uncut-requires
-    start-of-requires-2
+    array-read-is-uncut-2
     is-uncut-requires-2
-    start-of-requires-3
+    array-read-is-uncut-3
     is-uncut-requires-3
-    start-of-requires-4
+    array-read-is-uncut-4
     is-uncut-requires-4
-    start-of-requires-5
+    array-read-is-uncut-5
     is-uncut-requires-5
     returns
     returns-2

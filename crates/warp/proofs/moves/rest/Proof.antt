@@ -1,10 +1,11 @@
 -- The loop's invariant: the codes before p stand in the table, whatever block they are of. Assumes nothing.
 use native.Mathlib.Omega.{arith}
-use Prim.Native.Nat.{ℕ, _-_, _≤_}
-use mathlib.Core.Path.{_≡_, refl, subst}
+use Prim.Native.Nat.{ℕ, _-_, _≤_, _<_}
+use mathlib.Core.Path.{_≡_, refl, subst, _∙_}
+use mathlib.Core.List.{List}
 use lib.ListN.{length, length-set}
 use Rattle.moving.specs.Block.{Block}
-use Rattle.warp.specs.Quick.{IdleFrom, Coded}
+use Rattle.warp.specs.Quick.{Idle, Coded}
 use Rattle.warp.proofs.Idle.{coded-idle}
 use Rattle.warp.proofs.moves.rest.Statement.{statement}
 use Rattle.warp.proofs.moves.rest.Tie as tie
@@ -12,7 +13,7 @@ use Rattle.warp.proofs.moves.rest.Tie as tie
 abbrev Inv-loop : tie.InvT-loop
 Inv-loop state₀ from to p₀ state p =
     (from ≤ p) × (p ≤ to) × (length state ≡ length state₀)
-    × ((b : Block) → Coded b from state₀ → IdleFrom b from to → Coded b p state)
+    × ((b : Block) → Coded b from state₀ → ((j : ℕ) → from ≤ j → j < to → Idle b j) → Coded b p state)
 
 abbrev μ-loop : tie.MeasureT-loop
 μ-loop state₀ from to p₀ state p = to - p
@@ -35,7 +36,7 @@ loop-again c =
       omega (arith, i .0),
       omega arith,
       simp length-set (i .2),
-      λ b w h. coded-idle (i .3 b w h) (omega (arith, i .2)) (h .all _ (i .0) (c .loop-test .taken)),
+      λ b w h. coded-idle (i .3 b w h) (omega (arith, i .2)) (h _ (i .0) (c .loop-test .taken)),
     )
 
 same-length : tie.Need-same-length Inv-loop μ-loop

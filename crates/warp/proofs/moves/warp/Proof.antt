@@ -1,8 +1,9 @@
 -- The loop's invariant: the points before p are done, and q starts the line at p. Assumes nothing.
 use native.Mathlib.Omega.{arith}
 use Prim.Native.Nat.{_+_, _-_}
-use mathlib.Core.Path.{refl, sym, _∙_}
+use mathlib.Core.Path.{_≡_, refl, sym, _∙_}
 use mathlib.Core.Logic.{⊎-elim}
+use lib.ListN.{length, take}
 use Rattle.basics.specs.Lists.{count}
 use Rattle.lattice.proofs.Bounds.{points-small}
 use Rattle.moving.specs.Block.{blockOf}
@@ -11,7 +12,7 @@ use Rattle.filling.specs.Fill.{movedCount}
 use Rattle.audit.proofs.Points.{points-some}
 use Rattle.audit.proofs.Lines.{line-on, line-first}
 use Rattle.warp.proofs.Codes.{Warped, warped-whole, counted-few}
-use Rattle.warp.proofs.Passed.{line-here, coded-here, fits, after, passed-idle, passed-walked, walked-few}
+use Rattle.warp.proofs.Passed.{Passed, line-here, coded-here, fits, after, passed-idle, passed-walked, walked-few}
 use Rattle.warp.proofs.moves.warp.Statement.{statement}
 use Rattle.warp.proofs.moves.warp.Tie as tie
 
@@ -54,8 +55,7 @@ add-end c =
 
 is-idle-line-requires : tie.Need-is-idle-line-requires Inv-loop μ-loop
 is-idle-line-requires c κs =
-    let a = c .before .before .before .before .before .before .before in
-    (a .pre .0 .sized, line-here _ (c .before .before .loop .inv) (c .before .loop-test .taken) (c .line-length .ensures .0))
+    let a = c .before .before .before .before .before .before .before in (a .pre .0 .sized, line-here _ (c .before .before .loop .inv) (c .before .loop-test .taken) (c .line-length .ensures .0))
 
 rest-requires : tie.Need-rest-requires Inv-loop μ-loop
 rest-requires c κs =
@@ -84,7 +84,7 @@ add-moved c =
     let b = blockOf (a .args .s) (a .args .samples .now) (a .args .cuts .now) in
     omega (
       arith,
-      walked-few b i h (l .line-length .ensures .0) (c .before .before .warp-line .result) (c .before .before .warp-line .ensures),
+      walked-few b i h (l .line-length .ensures .0) (c .before .before .warp-line .result) (c .before .before .warp-line .ensures .1),
       counted-few b (l .before .before .loop .p + l .line-length .result),
       fits b i h (l .line-length .ensures .0) (a .pre .0 .sized) (k .point-count .ensures),
       points-small (a .args .s) (a .pre .0 .sized),
@@ -115,7 +115,7 @@ loop-again c =
     let b = blockOf (a .args .s) (a .args .samples .now) (a .args .cuts .now) in
     let e = l .line-length .ensures .0 in
     let d = ⊎-elim (λ w. passed-idle b i h e (t .is-idle-line .ensures (w .0 .taken) _) (w .2 .ensures) (w .5) (w .6))
-    (λ w. passed-walked b i h e (w .2 .result) (w .2 .ensures) (w .5) (w .6)) (c .before .before .if1 .came) in
+    (λ w. passed-walked b i h e (w .2 .result) (w .2 .ensures .0) (w .2 .ensures .1) (w .5) (w .6)) (c .before .before .if1 .came) in
     record {
       high = omega (arith, c .before .if2 .taken);
       coded = d .coded;
@@ -137,7 +137,7 @@ loop-again-2 c =
     let b = blockOf (a .args .s) (a .args .samples .now) (a .args .cuts .now) in
     let e = l .line-length .ensures .0 in
     let d = ⊎-elim (λ w. passed-idle b i h e (t .is-idle-line .ensures (w .0 .taken) _) (w .2 .ensures) (w .5) (w .6))
-    (λ w. passed-walked b i h e (w .2 .result) (w .2 .ensures) (w .5) (w .6)) (c .before .if1 .came) in
+    (λ w. passed-walked b i h e (w .2 .result) (w .2 .ensures .0) (w .2 .ensures .1) (w .5) (w .6)) (c .before .if1 .came) in
     let f = fits b i h e (a .pre .0 .sized) (k .point-count .ensures) in
     record { high = omega arith; coded = d .coded; counted = d .counted; line = λ g. absurd (omega (arith, c .if2 .left)) }
 

@@ -1,17 +1,40 @@
--- No cut, or a cut as far away as the two functions say. Assumes nothing.
-use borrow.Author.Tests.{eq-eqb, ne-eqb}
-use Rattle.lattice.specs.Direction.{directionOf}
-use Rattle.moving.specs.Violation.{violates}
+-- No cut is farther than every limit. Assumes nothing.
+use Prim.Native.Nat.{ℕ, _<_}
+use native.Mathlib.Omega.{arith}
+use mathlib.Core.Path.{_≡_}
+use mathlib.Core.Logic.{inl, inr}
+use mathlib.Core.Bool.{Bool, true, false}
+use lib.Dec.{leb}
+use borrow.Author.Tests.{eq-eqb, ne-eqb, lt-leb}
+use Rattle.basics.specs.Choice.{if_then_else_}
+use Rattle.basics.proofs.Test.{lt-or}
+use Rattle.lattice.specs.Direction.{long, directionOf}
+use Rattle.moving.specs.Violation.{longLimit, shortLimit, limit, measured, violates}
 use borrow.Author.Needs.{needs}
 use Rattle.warp.proofs.violation.violates.Statement.{statement}
 use Rattle.warp.proofs.violation.violates.Tie as tie
 
-returns : tie.Need-returns
-unfolding violates
-returns c = simp (eq-eqb _ _ (c .if1 .taken))
+limit-lt : (d : ℕ) → limit d < 256
+unfolding limit
+limit-lt d = go (long d)
+  where
+    go : (t : Bool) → (if t then longLimit else shortLimit) < 256
+    go true = omega arith
+    go false = omega arith
 
-measured-requires : tie.Need-measured-requires
-measured-requires c κs = search needs
+by-distance : (c t r l : ℕ) → (t ≡ 0 → r ≡ 256) × ((t ≡ 0 → ⊥) → r ≡ measured c t) → l ≡ limit (directionOf c) → leb r l ≡ violates c t
+unfolding violates
+by-distance c t r l h e =
+    elim (lt-or 0 t) [
+      | inl u ↦ let n : t ≡ 0 → ⊥ = λ z. omega arith in rw (h .1 n, e) (simp (ne-eqb t 0 n))
+      | inr u ↦
+          let z : t ≡ 0 = omega arith in
+          let f : leb r l ≡ false = lt-leb r l (omega (arith, h .0 z, limit-lt (directionOf c))) in
+          rw f (simp (eq-eqb t 0 z))
+    ]
+
+distance-requires : tie.Need-distance-requires
+distance-requires c κs = search needs
 
 sub-limit : tie.Need-sub-limit
 sub-limit c = search needs
@@ -19,9 +42,9 @@ sub-limit c = search needs
 limit-requires : tie.Need-limit-requires
 limit-requires c κs = search needs
 
-returns-2 : tie.Need-returns-2
-unfolding violates directionOf
-returns-2 c = simp (ne-eqb _ _ (c .before .before .if1 .left)) (cc)
+returns : tie.Need-returns
+unfolding directionOf
+returns c = let a = c .before .before .args in by-distance (a .code) (a .t) _ _ (c .before .distance .ensures) (c .limit .ensures)
 
 pub violates-spec : {M : Type 1} → statement M
-violates-spec = tie.close (tie.spec returns measured-requires sub-limit limit-requires returns-2)
+violates-spec = tie.close (tie.spec distance-requires sub-limit limit-requires returns)
