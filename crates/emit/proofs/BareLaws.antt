@@ -26,12 +26,15 @@ module _ (samples : List ℤ) (step : Cube) (corner centre count : ℕ) (a : Lig
   pub bare-run : (x : ℕ) → x < count → plusCount samples (movedCube step (corner + x) (centre + x)) ≡ 0
   unfolding plusCount movedCube
   bare-run x h =
-      omega (arith, none-at (centre + step .low + x) (centre + x + step .low) (omega arith) (a x h),
-      none-at (centre + step .high + x) (centre + x + step .high) (omega arith) (b x h),
-      none-at (corner + step .mm + x) (corner + x + step .mm) (omega arith) (c x h),
-      none-at (corner + step .pm + x) (corner + x + step .pm) (omega arith) (d x h),
-      none-at (corner + step .pp + x) (corner + x + step .pp) (omega arith) (e x h),
-      none-at (corner + step .mp + x) (corner + x + step .mp) (omega arith) (f x h))
+      omega (
+        arith,
+        none-at (centre + step .low + x) (centre + x + step .low) (omega arith) (a x h),
+        none-at (centre + step .high + x) (centre + x + step .high) (omega arith) (b x h),
+        none-at (corner + step .mm + x) (corner + x + step .mm) (omega arith) (c x h),
+        none-at (corner + step .pm + x) (corner + x + step .pm) (omega arith) (d x h),
+        none-at (corner + step .pp + x) (corner + x + step .pp) (omega arith) (e x h),
+        none-at (corner + step .mp + x) (corner + x + step .mp) (omega arith) (f x h),
+      )
 
 -- the six lines end among n points
 pub record Ends (n : ℕ) (step : Cube) (corner centre count : ℕ) : Type 0 where

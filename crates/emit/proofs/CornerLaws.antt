@@ -48,8 +48,12 @@ pub entry-small : (t : Tetra) (u v : ℕ) → Tetrahedral t → u < 4 → v < 4 
 entry-small t u v k hu hv =
     let a = axisAt (t .axis) in
     let e = quarterAt (t .edge) in
-    omega (arith, cut-entry (t .axis) (t .edge) u v (k .axis-in) (k .edge-in) hu hv, rank-lt (startBetween a e (vertexAt u) (vertexAt v)),
-    way-lt a e (vertexAt u) (vertexAt v))
+    omega (
+      arith,
+      cut-entry (t .axis) (t .edge) u v (k .axis-in) (k .edge-in) hu hv,
+      rank-lt (startBetween a e (vertexAt u) (vertexAt v)),
+      way-lt a e (vertexAt u) (vertexAt v),
+    )
 
 -- .. and it is the cut
 pub cut-is : (t : Tetra) (u v x : ℕ) → Tetrahedral t → u < 4 → v < 4 → x ≡ numberAt t (cutEntry (t .axis) (t .edge) u v / 8)

@@ -132,8 +132,17 @@ cube-most n samples state c = bounded (edgeIds n c (cubeWeights samples state c)
 pub cube-counted : (n : ℕ) (c : Cube) (w : CubeWeights) → 4 * cubeCount w ≡ length (gather (edgeIds n c w) (below 4))
 unfolding cubeCount edgeIds gather from
 cube-counted n c w =
-    omega (arith, edge-long 0, edge-long 1, edge-long 2, edge-long 3, appended (ids 0) (ids 1 ++ (ids 2 ++ (ids 3 ++ []))),
-    appended (ids 1) (ids 2 ++ (ids 3 ++ [])), appended (ids 2) (ids 3 ++ []), appended (ids 3) [])
+    omega (
+      arith,
+      edge-long 0,
+      edge-long 1,
+      edge-long 2,
+      edge-long 3,
+      appended (ids 0) (ids 1 ++ (ids 2 ++ (ids 3 ++ []))),
+      appended (ids 1) (ids 2 ++ (ids 3 ++ [])),
+      appended (ids 2) (ids 3 ++ []),
+      appended (ids 3) [],
+    )
   where
     ids : ℕ → List ℕ
     ids e = tetraIds n (winds (quarterAt e)) (quarterOf c e) (quarterWeights w e)

@@ -18,13 +18,7 @@ fn has_plus(samples: &[i16], from: usize, count: usize) -> bool
 }
 
 // None of the points of so many cubes side by side along x has a sample above zero.
-pub fn is_bare_run(
-    samples: &[i16],
-    step: Cube,
-    corner: usize,
-    centre: usize,
-    count: usize,
-) -> bool
+pub fn is_bare_run(samples: &[i16], step: Cube, corner: usize, centre: usize, count: usize) -> bool
     requires { ⌜ length (now samples) ≤ most ⌝ }
     requires { ⌜ KnownRun (length (now samples)) step corner centre count ⌝ }
     ensures { λ r. ⌜ (r ≡ true → (x : ℕ) → x < count → plusCount (now (samples .entry)) (movedCube step (corner + x) (centre + x)) ≡ 0) ⌝ }

@@ -36,7 +36,8 @@ fn fill_accepted(
 ) -> Filled
     requires { ⌜ Accepted (blockOf s (now samples) (now cuts)) ⌝ }
     requires { ⌜ length (now state) ≡ points s ⌝ }
-    ensures { λ r. ⌜ Fills (blockOf s (now (samples .entry)) (now (cuts .entry))) (now (state .entry)) (now (rows .entry)) r (now (state .exit)) (now (rows .exit)) ⌝ }
+    ensures { λ r. ⌜ Fills (blockOf s (now (samples .entry)) (now (cuts .entry)))
+        (now (state .entry)) (now (rows .entry)) r (now (state .exit)) (now (rows .exit)) ⌝ }
 {
     let moved = warp::moves::warp(s, samples, cuts, state);
     let count = emit::passes::count_rows(s, samples, state);
@@ -61,7 +62,8 @@ fn fill_accepted(
 fn fill_tabled(s: Sizes, samples: &[i16], cuts: &[u8], state: &mut [u8], rows: &mut [u32]) -> Filled
     requires { ⌜ Tabled (blockOf s (now samples) (now cuts)) ⌝ }
     requires { ⌜ length (now state) ≡ points s ⌝ }
-    ensures { λ r. ⌜ Fills (blockOf s (now (samples .entry)) (now (cuts .entry))) (now (state .entry)) (now (rows .entry)) r (now (state .exit)) (now (rows .exit)) ⌝ }
+    ensures { λ r. ⌜ Fills (blockOf s (now (samples .entry)) (now (cuts .entry)))
+        (now (state .entry)) (now (rows .entry)) r (now (state .exit)) (now (rows .exit)) ⌝ }
 {
     let n = counts::point_count(s);
     let first = audit::rim::first_rim(s, samples);
@@ -88,9 +90,12 @@ pub extern "C" fn yakuemi_fill(
     state: &mut [u8],
     rows: &mut [u32],
 ) -> Filled
-    ensures answer { λ r. ⌜ r ≡ fill (blockOf (sizes nx ny nz) (now (samples .entry)) (now (cuts .entry))) (now (state .entry)) (now (rows .entry)) .answer ⌝ }
-    ensures state { λ r. ⌜ now (state .exit) ≡ fill (blockOf (sizes nx ny nz) (now (samples .entry)) (now (cuts .entry))) (now (state .entry)) (now (rows .entry)) .state ⌝ }
-    ensures rows { λ r. ⌜ now (rows .exit) ≡ fill (blockOf (sizes nx ny nz) (now (samples .entry)) (now (cuts .entry))) (now (state .entry)) (now (rows .entry)) .rows ⌝ }
+    ensures answer { λ r. ⌜ r
+        ≡ fill (blockOf (sizes nx ny nz) (now (samples .entry)) (now (cuts .entry))) (now (state .entry)) (now (rows .entry)) .answer ⌝ }
+    ensures state { λ r. ⌜ now (state .exit)
+        ≡ fill (blockOf (sizes nx ny nz) (now (samples .entry)) (now (cuts .entry))) (now (state .entry)) (now (rows .entry)) .state ⌝ }
+    ensures rows { λ r. ⌜ now (rows .exit)
+        ≡ fill (blockOf (sizes nx ny nz) (now (samples .entry)) (now (cuts .entry))) (now (state .entry)) (now (rows .entry)) .rows ⌝ }
     ensures conforms { λ r. ⌜ (r .number ≡ 0
         → Conforms (rowsRead (now (rows .exit)) (r .rows))
         (placeOf (sizes nx ny nz) (now (cuts .entry)) (now (state .exit)))
@@ -106,7 +111,8 @@ pub extern "C" fn yakuemi_fill(
 
 // Sizes, then the lengths of the tables.
 fn fill_sized(s: Sizes, samples: &[i16], cuts: &[u8], state: &mut [u8], rows: &mut [u32]) -> Filled
-    ensures { λ r. ⌜ Fills (blockOf s (now (samples .entry)) (now (cuts .entry))) (now (state .entry)) (now (rows .entry)) r (now (state .exit)) (now (rows .exit)) ⌝ }
+    ensures { λ r. ⌜ Fills (blockOf s (now (samples .entry)) (now (cuts .entry)))
+        (now (state .entry)) (now (rows .entry)) r (now (state .exit)) (now (rows .exit)) ⌝ }
 {
     if !counts::sizes_fit(s) {
         return refused(1, 0);

@@ -60,9 +60,10 @@ unfolding cubeCount sum
 returns c =
     let c3 = c .before .before .before in
     let c2 = c3 .before .before .before in
-    let c1 = c2 .before .before .before in
-    (λ i. c1 .row-count .ensures .0 i + c2 .row-count2 .ensures .0 i + c3 .row-count3 .ensures .0 i + c .row-count4 .ensures .0 i,
-    omega (arith, c1 .row-count .ensures .1, c2 .row-count2 .ensures .1, c3 .row-count3 .ensures .1, c .row-count4 .ensures .1))
+    let c1 = c2 .before .before .before in (
+      λ i. c1 .row-count .ensures .0 i + c2 .row-count2 .ensures .0 i + c3 .row-count3 .ensures .0 i + c .row-count4 .ensures .0 i,
+      omega (arith, c1 .row-count .ensures .1, c2 .row-count2 .ensures .1, c3 .row-count3 .ensures .1, c .row-count4 .ensures .1),
+    )
 
 pub count-cube-spec : {M : Type 1} → statement M
 count-cube-spec =

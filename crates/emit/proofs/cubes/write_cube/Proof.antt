@@ -36,7 +36,7 @@ returns-2 c =
     let p = u .before .before .before in
     let a = p .before .before .before in
     let is = solid-is _ _ (a .args .c) (sym (p .count-plus .ensures) ∙ u .before .if2 .taken)
-          (sym (u .is-unmoved .ensures) ∙ c .before .before .before .before .if3 .taken) in
+    (sym (u .is-unmoved .ensures) ∙ c .before .before .before .before .if3 .taken) in
     same-ids _ _ _ _ _ _ (cube-as _ _ _ _ solidCube (sym is)) (c .before .before .write-solid-cube .ensures)
 
 write-mixed-cube-requires : tie.Need-write-mixed-cube-requires

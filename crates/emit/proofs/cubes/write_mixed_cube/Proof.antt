@@ -58,13 +58,20 @@ write-tetra-requires c κs =
     let e = c .before .before .before .before .before .before in
     let w = e .before in
     let a = w .before .before .before in
-    let room = cube-room _ _ _ _ _ _ _ (w .weigh-cube .ensures .0) (a .pre .1 .1 .1 .1) in
-    (a .pre .0,
-    (edge-known (a .args .n) (a .args .c) (w .weigh-cube .result) (i .e) _ _ _ b t v (a .pre .1 .1 .0),
-    (edge-small (a .args .n) (a .args .c) (w .weigh-cube .result) (i .e) _ _ _ b t v (w .weigh-cube .ensures .1),
-    (omega (arith, index-most (i .inv .1) 12 4 (λ j l. edge-most _ _ _ j) (i .inv .0), h, a .pre .1 .1 .1 .0),
-    fits-left (i .inv .1) 4 (edge-is (a .args .n) (a .args .c) (w .weigh-cube .result) (i .e) _ _ _ b t v)
-    h (room .fits (omega (arith, e .if1 .left)))))))
+    let room = cube-room _ _ _ _ _ _ _ (w .weigh-cube .ensures .0) (a .pre .1 .1 .1 .1) in (
+      a .pre .0,
+      (
+        edge-known (a .args .n) (a .args .c) (w .weigh-cube .result) (i .e) _ _ _ b t v (a .pre .1 .1 .0),
+        (
+          edge-small (a .args .n) (a .args .c) (w .weigh-cube .result) (i .e) _ _ _ b t v (w .weigh-cube .ensures .1),
+          (
+            omega (arith, index-most (i .inv .1) 12 4 (λ j l. edge-most _ _ _ j) (i .inv .0), h, a .pre .1 .1 .1 .0),
+            fits-left (i .inv .1) 4 (edge-is (a .args .n) (a .args .c) (w .weigh-cube .result) (i .e) _ _ _ b t v)
+                h (room .fits (omega (arith, e .if1 .left))),
+          ),
+        ),
+      ),
+    )
 
 add-e : tie.Need-add-e Inv μ
 add-e c = omega arith
@@ -78,11 +85,12 @@ loop-again c =
     let v = c .before .before .before .before in
     let i = v .before .before .before .before .loop in
     let w = v .before .before .before .before .before .before in
-    let a = w .before .before .before .args in
-    (omega arith,
-    more-written (i .inv .1)
-    (edge-is (a .n) (a .c) (w .weigh-cube .result) (i .e) _ _ _ (v .before .before .winding .ensures) (v .before .quarter .ensures) (v .quarter-weights .ensures))
-    (r .1) (r .0))
+    let a = w .before .before .before .args in (
+      omega arith,
+      more-written (i .inv .1)
+          (edge-is (a .n) (a .c) (w .weigh-cube .result) (i .e) _ _ _ (v .before .before .winding .ensures) (v .before .quarter .ensures) (v .quarter-weights .ensures))
+          (r .1) (r .0),
+    )
 
 same-length : tie.Need-same-length Inv μ
 same-length c = kept-long (c .before .loop .inv .1)

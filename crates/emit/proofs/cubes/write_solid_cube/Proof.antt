@@ -40,10 +40,13 @@ write-solid-requires c κs =
     let w = c .before .before .winding in
     let q = c .before .quarter in
     let room = room-left (i .inv .1) 4 (solid-edge (a .args .n) (a .args .c) (i .e) _ _ (w .ensures) (q .ensures)) (c .before .before .before .loop-test .taken) (a .pre .1 .1 .1) in
-    let long = solid-long (a .args .n) (w .result) (q .result) in
-    (a .pre .0,
-    (edge-known (a .args .n) (a .args .c) solidCube (i .e) _ _ _ (w .ensures) (q .ensures) (solid-quarter (a .args .n) (a .args .c) (i .e)) (a .pre .1 .0),
-    omega (arith, long, kept-long (i .inv .1), room .fits (omega (arith, kept-long (i .inv .1), c .before .before .before .before .before .if1 .left)))))
+    let long = solid-long (a .args .n) (w .result) (q .result) in (
+      a .pre .0,
+      (
+        edge-known (a .args .n) (a .args .c) solidCube (i .e) _ _ _ (w .ensures) (q .ensures) (solid-quarter (a .args .n) (a .args .c) (i .e)) (a .pre .1 .0),
+        omega (arith, long, kept-long (i .inv .1), room .fits (omega (arith, kept-long (i .inv .1), c .before .before .before .before .before .if1 .left))),
+      ),
+    )
 
 add-to : tie.Need-add-to Inv μ
 add-to c =
@@ -63,9 +66,10 @@ loop-again c =
     let i = c .before .before .before .before .before .before .before .loop in
     let w = c .before .before .before .before .before .winding in
     let q = c .before .before .before .before .quarter in
-    let long = solid-long (a .args .n) (w .result) (q .result) in
-    (omega arith,
-    more-written (i .inv .1) (solid-edge (a .args .n) (a .args .c) (i .e) _ _ (w .ensures) (q .ensures)) (c .before .before .write-solid .ensures) (omega (arith, long)))
+    let long = solid-long (a .args .n) (w .result) (q .result) in (
+      omega arith,
+      more-written (i .inv .1) (solid-edge (a .args .n) (a .args .c) (i .e) _ _ (w .ensures) (q .ensures)) (c .before .before .write-solid .ensures) (omega (arith, long)),
+    )
 
 same-length : tie.Need-same-length Inv μ
 same-length c = kept-long (c .before .loop .inv .1)

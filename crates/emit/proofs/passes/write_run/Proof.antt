@@ -44,12 +44,19 @@ unfolding runIds
 write-cube-requires c κs =
     let a = c .before .before .before .before .before .before .before .before .pre in
     let i = c .before .before .before .loop .inv in
-    let h = c .before .before .loop-test .taken in
-    (a .0,
-    (a .1 .0,
-    (run-known _ _ _ _ _ (a .1 .1 .0) _ h _ (c .before .cube-at .ensures),
-    (omega (arith, index-most (i .1) 48 _ (λ j l. placed-most _ _ _ _ _ _ j) (i .0), a .1 .1 .0 .few, a .1 .1 .1 .0),
-    room-left (i .1) _ (placed-is _ _ _ _ _ _ _ _ (c .before .cube-at .ensures)) h (a .1 .1 .1 .1)))))
+    let h = c .before .before .loop-test .taken in (
+      a .0,
+      (
+        a .1 .0,
+        (
+          run-known _ _ _ _ _ (a .1 .1 .0) _ h _ (c .before .cube-at .ensures),
+          (
+            omega (arith, index-most (i .1) 48 _ (λ j l. placed-most _ _ _ _ _ _ j) (i .0), a .1 .1 .0 .few, a .1 .1 .1 .0),
+            room-left (i .1) _ (placed-is _ _ _ _ _ _ _ _ (c .before .cube-at .ensures)) h (a .1 .1 .1 .1),
+          ),
+        ),
+      ),
+    )
 
 add-x : tie.Need-add-x Inv μ
 add-x c = omega arith

@@ -44,12 +44,15 @@ unfolding sum
 write-requires c κs =
     let k = c .before .before in
     let o = k .before .before in
-    let a = o .before .before .before .before .before .before .before in
-    (a .pre .0,
-    (known-for (a .args .n) (a .args .wound) (a .args .t) (a .args .w) _ _ _ _ (o .order .ensures) (k .before .is-even .ensures) (k .agrees .ensures)
-    (c .before .rows-for .ensures) (a .pre .1 .0),
-    room-for (a .args .n) (a .args .wound) (a .args .t) (a .args .w) _ _ _ _ (o .order .ensures) (k .before .is-even .ensures) (k .agrees .ensures)
-    (c .before .rows-for .ensures) (a .args .rows .now) (a .args .at) (a .pre .1 .1 .1 .1)))
+    let a = o .before .before .before .before .before .before .before in (
+      a .pre .0,
+      (
+        known-for (a .args .n) (a .args .wound) (a .args .t) (a .args .w) _ _ _ _ (o .order .ensures) (k .before .is-even .ensures) (k .agrees .ensures)
+            (c .before .rows-for .ensures) (a .pre .1 .0),
+        room-for (a .args .n) (a .args .wound) (a .args .t) (a .args .w) _ _ _ _ (o .order .ensures) (k .before .is-even .ensures) (k .agrees .ensures)
+            (c .before .rows-for .ensures) (a .args .rows .now) (a .args .at) (a .pre .1 .1 .1 .1),
+      ),
+    )
 
 mul-result : tie.Need-mul-result
 mul-result c = omega (arith, c .before .before .before .before .before .before .before .before .before .row-count .ensures .1)
