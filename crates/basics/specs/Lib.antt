@@ -1,3 +1,3 @@
 pub mod Choice
 pub mod Lists
-pub mod Table
+pub mod cases

@@ -2,7 +2,7 @@
 // counts, or why it is refused.
 use libc::STDIN_FILENO;
 use libc::STDOUT_FILENO;
-use summary::Summary;
+use fill_file::Summary;
 
 fn print_line(word: &[u8], n: u64) {
     io::write_all(STDOUT_FILENO, word);
@@ -37,5 +37,5 @@ fn main() {
     let mut state = [0u8; 341];
     let mut rows = [0u32; 14400];
     let n = io::read_full(STDIN_FILENO, &mut bytes);
-    print(summary::summarize(&bytes[..n], &mut samples, &mut cuts, &mut state, &mut rows));
+    print(fill_file::summarize(&bytes[..n], &mut samples, &mut cuts, &mut state, &mut rows));
 }

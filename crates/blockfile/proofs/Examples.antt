@@ -1,7 +1,7 @@
 -- A file or two for each reason of a refusal, and files that are taken: each answer is the expected one. Assumes nothing.
 use mathlib.Core.Path.{_≡_, refl}
 use mathlib.Core.List.{map}
-use Rattle.blockfile.specs.Examples.{givenFile, examples, wholeExamples, answered, answeredWhole, expected}
+use Rattle.blockfile.specs.cases.Examples.{givenFile, examples, wholeExamples, answered, answeredWhole, expected}
 use Rattle.blockfile.proofs.Opened.{format}
 
 pub examples-come-out : map answered examples ≡ map expected examples

@@ -2,10 +2,10 @@
 -- bytes. Assumes nothing.
 use mathlib.Core.Path.{_≡_, refl}
 use mathlib.Core.List.{_++_}
-use Rattle.casebook.specs.Given.{laid, laidRuns, givenSamples, givenCuts, unchanged, changed}
+use Rattle.casebook.specs.cases.Given.{laid, laidRuns, givenSamples, givenCuts, unchanged, changed}
 use Rattle.blockfile.specs.Format.{read}
-use Rattle.blockfile.specs.Write.{write}
-use Rattle.blockfile.specs.Examples.{givenFile, lentSamples, lentCuts}
+use Rattle.blockfile.specs.inner.Write.{write}
+use Rattle.blockfile.specs.cases.Examples.{givenFile, lentSamples, lentCuts}
 use Rattle.blockfile.proofs.Opened.{format}
 
 pub given-reads : read givenFile 5 (lentSamples 341) (lentCuts 2387)

@@ -13,7 +13,7 @@ use Rattle.basics.proofs.Test.{&&-l, &&-r, T-true, true-T}
 use Rattle.lattice.specs.Counts.{Sized}
 use Rattle.moving.specs.Block.{Block}
 use Rattle.blockfile.specs.declared.Run.{Run}
-use Rattle.blockfile.specs.Write.{twoBytes, fourBytes, unsigned, sampleBytes, header, runsOf, listed, write, onlyBytes}
+use Rattle.blockfile.specs.inner.Write.{twoBytes, fourBytes, unsigned, sampleBytes, header, runsOf, listed, write, onlyBytes}
 
 none : onlyBytes [] ≡ true
 unfolding onlyBytes

@@ -24,7 +24,7 @@ use Rattle.blockfile.specs.Format.{
   read,
   readWhole,
 }
-use Rattle.blockfile.specs.Write.{twoBytes, fourBytes, unsigned, sampleBytes, header, joined, runsOf, listed, write}
+use Rattle.blockfile.specs.inner.Write.{twoBytes, fourBytes, unsigned, sampleBytes, header, joined, runsOf, listed, write}
 
 unfoldable pub format : Unit {0}
 unfolding

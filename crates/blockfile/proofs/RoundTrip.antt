@@ -16,7 +16,7 @@ use Rattle.moving.specs.Block.{Block}
 use Rattle.blockfile.specs.declared.Run.{Run}
 use Rattle.blockfile.specs.Format.{fit, lengths, noZero, runsFrom, runCount, fileRuns, firstByte, end, fileCuts}
 use Rattle.blockfile.specs.Format.{fileSizes, samplesFrom, wellFormed, taken, read}
-use Rattle.blockfile.specs.Write.{twoBytes, sampleBytes, header, runsOf, listed, write, Writable}
+use Rattle.blockfile.specs.inner.Write.{twoBytes, sampleBytes, header, runsOf, listed, write, Writable}
 use Rattle.blockfile.proofs.Stands.{
   Stands,
   stands-first,

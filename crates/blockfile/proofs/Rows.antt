@@ -11,7 +11,7 @@ use borrow.Author.Tests.{eqb-true, eqb-false}
 use Rattle.basics.specs.Choice.{if_then_else_}
 use Rattle.blockfile.specs.declared.Run.{Run}
 use Rattle.blockfile.specs.Format.{fit, lengths, noZero, cutsFrom}
-use Rattle.blockfile.specs.Write.{joined, runsOf, listed}
+use Rattle.blockfile.specs.inner.Write.{joined, runsOf, listed}
 use Rattle.blockfile.proofs.Left.{zeros-left}
 use Rattle.blockfile.proofs.Fitting.{RunFits, fit-head, fit-tail, fit-cons, fit-none, fit-earlier}
 use Rattle.blockfile.proofs.Stands.{Stands, stands-second}

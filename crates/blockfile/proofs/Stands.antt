@@ -13,7 +13,7 @@ use Rattle.basics.specs.Lists.{gather}
 use Rattle.basics.proofs.Test.{&&-l, &&-r, T-true, true-T}
 use Rattle.blockfile.specs.declared.Run.{Run}
 use Rattle.blockfile.specs.Format.{signed, twoAt, fourAt, samplesFrom, runAt, runsFrom, fit}
-use Rattle.blockfile.specs.Write.{twoBytes, fourBytes, unsigned, sampleBytes, header, sixteen, narrow, short}
+use Rattle.blockfile.specs.inner.Write.{twoBytes, fourBytes, unsigned, sampleBytes, header, sixteen, narrow, short}
 use Rattle.blockfile.proofs.Signed.{signed-small, signed-large}
 use Rattle.blockfile.proofs.Fitting.{fit-head, fit-tail}
 

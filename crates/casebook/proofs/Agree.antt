@@ -1,8 +1,8 @@
 -- The definitions agree with separate software: answers, whole tables and places are those that it recorded. Assumes nothing.
 use mathlib.Core.Path.{_≡_, refl}
 use mathlib.Core.List.{map}
-use Rattle.casebook.specs.Example.{blockIn, recorded, asked, answered, defined}
-use Rattle.casebook.specs.Blocks.{examples}
+use Rattle.casebook.specs.cases.Example.{blockIn, recorded, asked, answered, defined}
+use Rattle.casebook.specs.cases.Blocks.{examples}
 use Rattle.casebook.proofs.Opened.{definitions}
 
 pub agrees : map defined examples ≡ map recorded examples

@@ -1,9 +1,9 @@
 -- Document 01's cases come out: what `fill` and `locate` say of each is what document 01 says. Assumes nothing.
 use mathlib.Core.Path.{_≡_, refl}
 use mathlib.Core.List.{map}
-use Rattle.casebook.specs.Given.{laid, laidRuns, givenSamples, givenCuts, changed}
-use Rattle.casebook.specs.Cases.{cases}
-use Rattle.casebook.specs.Result.{computed, expected, found, resultOf}
+use Rattle.casebook.specs.cases.Given.{laid, laidRuns, givenSamples, givenCuts, changed}
+use Rattle.casebook.specs.cases.Cases.{cases}
+use Rattle.casebook.specs.cases.Result.{computed, expected, found, resultOf}
 use Rattle.casebook.proofs.Opened.{definitions}
 
 pub cases-come-out : map computed cases ≡ map expected cases

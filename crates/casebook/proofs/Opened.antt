@@ -1,7 +1,7 @@
 -- Every definition that filling and the place call rest on, opened by one name: a computed fact says `unfolding definitions`.
 -- Assumes nothing.
 use Rattle.basics.specs.Lists.{gather, from, firstFrom, count}
-use Rattle.basics.specs.Table.{tableOf}
+use Rattle.basics.specs.cases.Table.{tableOf}
 use Rattle.lattice.specs.Counts.{sizesFit, cells, points, tetrahedra}
 use Rattle.lattice.specs.Point.{linear, cell, kindOf}
 use Rattle.lattice.specs.Direction.{directions, direction, long, isStart, directionOf, step}

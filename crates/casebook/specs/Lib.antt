@@ -1,6 +1,1 @@
-pub mod Lent
-pub mod Given
-pub mod Cases
-pub mod Result
-pub mod Example
-pub mod Blocks
+pub mod cases

@@ -58,13 +58,13 @@ fn is_agreed(head: &[u8; 48], body: &[u8]) -> bool {
     let mut bytes = [0u8; 2400];
     let mut rows = [0u32; 14500];
     if head[0] == 1 {
-        return recorded::fills::agrees(head, body, &mut samples, &mut bytes, &mut rows);
+        return replay::fills::agrees(head, body, &mut samples, &mut bytes, &mut rows);
     }
     if head[0] == 2 {
-        return recorded::questions::agrees(head, body);
+        return replay::questions::agrees(head, body);
     }
     if head[0] == 3 {
-        return recorded::files::agrees(head, body, &mut samples, &mut bytes);
+        return replay::files::agrees(head, body, &mut samples, &mut bytes);
     }
     false
 }

@@ -6,10 +6,10 @@ use mathlib.Core.Bool.{true, false}
 use mathlib.Core.List.{List}
 use lib.IntN.{ℤ, pos}
 use lib.ListN.{getD}
-use Rattle.audit.specs.Outside.{hasSign}
+use Rattle.checks.specs.inner.Outside.{hasSign}
 use Rattle.emit.specs.declared.Cube.{Cube}
-use Rattle.emit.specs.Cubes.{Light, plusAt, plusCount}
-use Rattle.emit.specs.Passes.{movedCube, KnownRun}
+use Rattle.emit.specs.inner.Cubes.{Light, plusAt, plusCount}
+use Rattle.emit.specs.inner.Passes.{movedCube, KnownRun}
 
 pub light-line : (samples : List ℤ) (from count : ℕ) → ((p : ℕ) → from ≤ p → p < from + count → hasSign true (getD samples p (pos 0)) ≡ false)
     → Light samples from count

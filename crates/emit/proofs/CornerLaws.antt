@@ -13,7 +13,7 @@ use Rattle.stencil.specs.Id.{codeBetween}
 use Rattle.emit.specs.declared.Corner.{Corner}
 use Rattle.emit.specs.declared.Corner.the-variants.{Edge}
 use Rattle.emit.specs.declared.Tetra.{Tetra}
-use Rattle.emit.specs.Corners.{axisAt, quarterAt, vertexAt, cornerOf, numberAt, startBetween, wayBetween, cutAt, Tetrahedral}
+use Rattle.emit.specs.inner.Corners.{axisAt, quarterAt, vertexAt, cornerOf, numberAt, startBetween, wayBetween, cutAt, Tetrahedral}
 use Rattle.emit.proofs.CutTable.{cutEntry, cut-entry}
 
 -- the last corner, for any number that is none of the others

@@ -22,10 +22,10 @@ use Rattle.emit.specs.declared.Tetra.{Tetra}
 use Rattle.emit.specs.declared.Weights.{Weights}
 use Rattle.emit.specs.declared.Cube.{Cube}
 use Rattle.emit.specs.declared.CubeWeights.{CubeWeights}
-use Rattle.emit.specs.Corners.{most, quarterAt}
-use Rattle.emit.specs.Picks.{weight, sum}
-use Rattle.emit.specs.Stencils.{KnownTetra, Small, Room, rowCount, tetraIds, solid}
-use Rattle.emit.specs.Cubes.{quarterOf, quarterWeights, KnownCube, SmallCube, counted, total, plusAt, plusCount, unmoved, solidCube, cubeCount, weightAt, cubeWeights, edgeIds, cubeIds}
+use Rattle.emit.specs.inner.Corners.{most, quarterAt}
+use Rattle.emit.specs.inner.Picks.{weight, sum}
+use Rattle.emit.specs.inner.Stencils.{KnownTetra, Small, Room, rowCount, tetraIds, solid}
+use Rattle.emit.specs.inner.Cubes.{quarterOf, quarterWeights, KnownCube, SmallCube, counted, total, plusAt, plusCount, unmoved, solidCube, cubeCount, weightAt, cubeWeights, edgeIds, cubeIds}
 use Rattle.emit.proofs.StencilLaws.{tetra-long, tetra-most, empty, solid-long}
 use Rattle.emit.proofs.Written.{bounded}
 

@@ -11,7 +11,7 @@ use Rattle.lattice.specs.Direction.{directions, direction, isStart, directionOf
 use Rattle.stencil.specs.Tetrahedron.{unit, around, offset}
 use Rattle.stencil.specs.Stencil.{rank}
 use Rattle.stencil.specs.Id.{leadsTo, codeBetween}
-use Rattle.emit.specs.Corners.{axisAt, quarterAt, vertexAt, startBetween, wayBetween}
+use Rattle.emit.specs.inner.Corners.{axisAt, quarterAt, vertexAt, startBetween, wayBetween}
 
 -- the constant of the code: a line an axis and an edge of the turn
 unfoldable pub cuts : List ℕ

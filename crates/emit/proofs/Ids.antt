@@ -24,9 +24,9 @@ use Rattle.emit.specs.declared.Corner.{Corner}
 use Rattle.emit.specs.declared.Tetra.{Tetra}
 use Rattle.emit.specs.declared.Weights.{Weights}
 use Rattle.emit.specs.declared.Order.{Order}
-use Rattle.emit.specs.Corners.{axisAt, quarterAt, vertexAt, cornerId, rowIds, cornerOf, pointAt, cutAt, startBetween, wayBetween}
-use Rattle.emit.specs.Picks.{sum, ordered, isEven}
-use Rattle.emit.specs.Stencils.{lines, turnedRow, stencilRows, allIds, tetraIds}
+use Rattle.emit.specs.inner.Corners.{axisAt, quarterAt, vertexAt, cornerId, rowIds, cornerOf, pointAt, cutAt, startBetween, wayBetween}
+use Rattle.emit.specs.inner.Picks.{sum, ordered, isEven}
+use Rattle.emit.specs.inner.Stencils.{lines, turnedRow, stencilRows, allIds, tetraIds}
 use Rattle.emit.proofs.Patterns.{weights, entryLines, lines-are, Apart, ordered-apart}
 
 -- the id of an entry by the numbers of a tetrahedron's corners

@@ -20,9 +20,9 @@ use Rattle.stencil.specs.Tetrahedron.{Tetrahedron, Vertex, v0, v1, v2, v3, Quar
 use Rattle.stencil.proofs.Corners.{theVertices, theQuarters}
 use Rattle.stencil.proofs.Valid.{Valid, corner-inside}
 use Rattle.emit.specs.declared.Cube.{Cube}
-use Rattle.emit.specs.Corners.{cornerOf}
-use Rattle.emit.specs.Cubes.{KnownCube, quarterOf}
-use Rattle.emit.specs.Passes.{movedCube, firstCorner, firstCentre, KnownRun, stepBy, passOf, InPass}
+use Rattle.emit.specs.inner.Corners.{cornerOf}
+use Rattle.emit.specs.inner.Cubes.{KnownCube, quarterOf}
+use Rattle.emit.specs.inner.Passes.{movedCube, firstCorner, firstCentre, KnownRun, stepBy, passOf, InPass}
 
 -- the six points: a centre or a corner of the shared face
 pub data Six : Type 0 where

@@ -21,7 +21,7 @@ use Rattle.geometry.specs.Place.{placeOf}
 use Rattle.filling.specs.Mesh.{labelsIn, oriented, rowsIn, rowsWith, table}
 use Rattle.volumes.proofs.Sound.{Sound}
 use Rattle.volumes.proofs.Volumes.{oriented-rows}
-use Rattle.emit.specs.Mesh.{labelsOf, signedRows, rowTotal, signedTable}
+use Rattle.emit.specs.inner.Mesh.{labelsOf, signedRows, rowTotal, signedTable}
 
 gather-long : {A B : Type 0} (f g : A → List B) (l : List A) → ((x : A) → length (f x) ≡ length (g x)) → length (gather f l) ≡ length (gather g l)
 unfolding gather

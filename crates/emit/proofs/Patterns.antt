@@ -19,9 +19,9 @@ use Rattle.stencil.proofs.Corners.{theVertices}
 use Rattle.stencil.proofs.Sign.{newcomer, order, evenFirst, even, signed}
 use Rattle.emit.specs.declared.Weights.{Weights}
 use Rattle.emit.specs.declared.Order.{Order}
-use Rattle.emit.specs.Corners.{vertexAt}
-use Rattle.emit.specs.Picks.{weight, sum, picked, chosen, ordered, inversion, isEven}
-use Rattle.emit.specs.Stencils.{lines}
+use Rattle.emit.specs.inner.Corners.{vertexAt}
+use Rattle.emit.specs.inner.Picks.{weight, sum, picked, chosen, ordered, inversion, isEven}
+use Rattle.emit.specs.inner.Stencils.{lines}
 
 abbrev pub four : Label → Label → Label → Label → Vertex → Label
 four a b c d v0 = a

@@ -18,9 +18,9 @@ use Rattle.emit.specs.declared.Row.{Row}
 use Rattle.emit.specs.declared.Tetra.{Tetra}
 use Rattle.emit.specs.declared.Weights.{Weights}
 use Rattle.emit.specs.declared.Order.{Order}
-use Rattle.emit.specs.Corners.{axisAt, quarterAt, vertexAt, Known, KnownRow, cornerId, rowIds, turned, cornerOf, pointAt, cutAt, startBetween}
-use Rattle.emit.specs.Picks.{sum, picked, chosen, ordered, inversion, isEven}
-use Rattle.emit.specs.Stencils.{lines, turnedRow, stencilRows, KnownRows, none, more, allIds, rowCount, tetraIds, KnownTetra, InOrder, solid}
+use Rattle.emit.specs.inner.Corners.{axisAt, quarterAt, vertexAt, Known, KnownRow, cornerId, rowIds, turned, cornerOf, pointAt, cutAt, startBetween}
+use Rattle.emit.specs.inner.Picks.{sum, picked, chosen, ordered, inversion, isEven}
+use Rattle.emit.specs.inner.Stencils.{lines, turnedRow, stencilRows, KnownRows, none, more, allIds, rowCount, tetraIds, KnownTetra, InOrder, solid}
 use Rattle.emit.proofs.CornerLaws.{way-lt}
 use Rattle.emit.proofs.Written.{sets-append}
 

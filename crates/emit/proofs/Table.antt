@@ -22,11 +22,11 @@ use Rattle.filling.specs.Mesh.{ids, table}
 use Rattle.filling.specs.Fill.{overwritten}
 use Rattle.emit.specs.declared.Cube.{Cube}
 use Rattle.emit.specs.declared.Weights.{Weights}
-use Rattle.emit.specs.Corners.{axisAt, quarterAt, cornerOf}
-use Rattle.emit.specs.Stencils.{Room, tetraIds}
-use Rattle.emit.specs.Cubes.{labelIn, weightAt, cubeWeights, quarterOf, quarterWeights, edgeIds, cubeIds}
-use Rattle.emit.specs.Passes.{movedCube, firstCorner, firstCentre, placedIds, runIds, lineIds, layerIds, passIds, stepBy, passOf, blockIds}
-use Rattle.emit.specs.Mesh.{labelsOf, signedRows, rowTotal, signedTable}
+use Rattle.emit.specs.inner.Corners.{axisAt, quarterAt, cornerOf}
+use Rattle.emit.specs.inner.Stencils.{Room, tetraIds}
+use Rattle.emit.specs.inner.Cubes.{labelIn, weightAt, cubeWeights, quarterOf, quarterWeights, edgeIds, cubeIds}
+use Rattle.emit.specs.inner.Passes.{movedCube, firstCorner, firstCentre, placedIds, runIds, lineIds, layerIds, passIds, stepBy, passOf, blockIds}
+use Rattle.emit.specs.inner.Mesh.{labelsOf, signedRows, rowTotal, signedTable}
 use Rattle.emit.proofs.Written.{gather-append}
 use Rattle.emit.proofs.Numbers.{cubeOf, tetrahedron, edgeNumber, numbers-are, counts-are, sizes-are}
 use Rattle.emit.proofs.Patterns.{weights}

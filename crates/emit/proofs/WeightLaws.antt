@@ -14,9 +14,9 @@ use borrow.Author.Tests.{ltb-true, ltb-false, eq-eqb, ne-eqb}
 use Rattle.basics.specs.Choice.{if_then_else_}
 use Rattle.moving.specs.Label.{labelOf, isPlus}
 use Rattle.moving.specs.Moving.{labelAfter}
-use Rattle.audit.proofs.Labels.{plus-test}
-use Rattle.emit.specs.Picks.{weight}
-use Rattle.emit.specs.Cubes.{weightAt, plusAt}
+use Rattle.checks.proofs.Labels.{plus-test}
+use Rattle.emit.specs.inner.Picks.{weight}
+use Rattle.emit.specs.inner.Cubes.{weightAt, plusAt}
 
 plus-of : (x : ℤ) → ltZ (pos 0) x ≡ true → weight (labelOf x) ≡ 5
 unfolding weight labelOf

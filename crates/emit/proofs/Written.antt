@@ -8,7 +8,7 @@ use mathlib.Core.List.{List, [], _∷_, _++_, append-nil, append-assoc}
 use lib.ListN.{length, drop, set, length-append}
 use lib.Seq.{sets, sets-eq, length-sets}
 use Rattle.basics.specs.Lists.{gather, from, below}
-use Rattle.emit.specs.Stencils.{Room}
+use Rattle.emit.specs.inner.Stencils.{Room}
 
 -- writing two lists is writing the one and then the other
 pub sets-append : (xs ys l : List ℕ) (i : ℕ) → sets l i (xs ++ ys) ≡ sets (sets l i xs) (i + length xs) ys

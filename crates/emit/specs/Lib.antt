@@ -1,6 +1,1 @@
-pub mod Corners
-pub mod Picks
-pub mod Stencils
-pub mod Cubes
-pub mod Passes
-pub mod Mesh
+pub mod inner

@@ -1,13 +1,13 @@
 // Runs of cubes without a plus, told from the samples of whole lines of points: quick where there is air.
 use crate::Cube;
-use audit::ranges;
+use checks::ranges;
 ghost use mathlib.Core.Path.{_≡_};
 ghost use mathlib.Core.Bool.{true, false};
 ghost use Prim.Native.Nat.{ℕ, _+_, _<_, _≤_};
 ghost use lib.ListN.{length};
-ghost use Rattle.emit.specs.Corners.{most};
-ghost use Rattle.emit.specs.Cubes.{Light, plusCount};
-ghost use Rattle.emit.specs.Passes.{movedCube, KnownRun};
+ghost use Rattle.emit.specs.inner.Corners.{most};
+ghost use Rattle.emit.specs.inner.Cubes.{Light, plusCount};
+ghost use Rattle.emit.specs.inner.Passes.{movedCube, KnownRun};
 
 // A line of so many points from one on has a sample above zero.
 fn has_plus(samples: &[i16], from: usize, count: usize) -> bool

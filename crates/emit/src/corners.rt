@@ -6,7 +6,7 @@ ghost use mathlib.Core.Path.{_≡_};
 ghost use Prim.Native.Nat.{_+_, _<_, _≤_};
 ghost use lib.ListN.{length};
 ghost use lib.Seq.{sets};
-ghost use Rattle.emit.specs.Corners.{most, Known, KnownRow, cornerId, rowIds, Tetrahedral, numberAt, pointAt, cutAt};
+ghost use Rattle.emit.specs.inner.Corners.{most, Known, KnownRow, cornerId, rowIds, Tetrahedral, numberAt, pointAt, cutAt};
 
 // A line an axis and an edge of the turn, and in it 8 times the start and the direction of the cut
 // between two corners: four times four of them.

@@ -15,11 +15,11 @@ ghost use lib.Seq.{sets};
 ghost use Rattle.basics.specs.Lists.{gather, below};
 ghost use Rattle.moving.specs.Label.{labelOf};
 ghost use Rattle.stencil.proofs.Sign.{winds};
-ghost use Rattle.places.specs.Places.{placeAt, InBox, placeBox};
-ghost use Rattle.emit.specs.Corners.{most, quarterAt};
-ghost use Rattle.emit.specs.Picks.{weight};
-ghost use Rattle.emit.specs.Stencils.{Room, rowsMost};
-ghost use Rattle.emit.specs.Cubes.{weightAt, windsWith, cubeWeights, quarterOf, quarterWeights, KnownCube, SmallCube, plusAt, plusCount, unmoved, solidCube, cubeCount, edgeIds, cubeIds};
+ghost use Rattle.places.specs.inner.Places.{placeAt, InBox, placeBox};
+ghost use Rattle.emit.specs.inner.Corners.{most, quarterAt};
+ghost use Rattle.emit.specs.inner.Picks.{weight};
+ghost use Rattle.emit.specs.inner.Stencils.{Room, rowsMost};
+ghost use Rattle.emit.specs.inner.Cubes.{weightAt, windsWith, cubeWeights, quarterOf, quarterWeights, KnownCube, SmallCube, plusAt, plusCount, unmoved, solidCube, cubeCount, edgeIds, cubeIds};
 
 // The weight of a sample's sign.
 fn weight_of(x: i16) -> usize

@@ -3,7 +3,7 @@ use crate::Order;
 use crate::Weights;
 ghost use mathlib.Core.Path.{_≡_};
 ghost use Prim.Native.Nat.{_≤_};
-ghost use Rattle.emit.specs.Picks.{picked, chosen, ordered, inversion, isEven};
+ghost use Rattle.emit.specs.inner.Picks.{picked, chosen, ordered, inversion, isEven};
 
 fn pick(taken: bool, v: usize, rest: Order) -> Order
     ensures { λ r. ⌜ r ≡ picked taken v rest ⌝ }

@@ -9,8 +9,8 @@ use crate::corners;
 ghost use mathlib.Core.Path.{_≡_};
 ghost use Prim.Native.Nat.{_≤_};
 ghost use Rattle.stencil.specs.Stencil.{stencilOf, plus-zero-only, +++-, ++--, ++-0, +---, +--0, +-00};
-ghost use Rattle.emit.specs.Corners.{turned, pointAt};
-ghost use Rattle.emit.specs.Stencils.{InOrder, rowCount, listed, turnedRow, stencilRows};
+ghost use Rattle.emit.specs.inner.Corners.{turned, pointAt};
+ghost use Rattle.emit.specs.inner.Stencils.{InOrder, rowCount, listed, turnedRow, stencilRows};
 
 // The row as it is, or with its last two corners exchanged.
 fn turn(keep: bool, r: Row) -> Row

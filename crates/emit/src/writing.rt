@@ -11,8 +11,8 @@ ghost use mathlib.Core.Bool.{Bool·beq};
 ghost use Prim.Native.Nat.{_+_, _*_, _<_, _≤_};
 ghost use lib.ListN.{length};
 ghost use lib.Seq.{sets};
-ghost use Rattle.emit.specs.Corners.{most};
-ghost use Rattle.emit.specs.Stencils.{listed, KnownRows, allIds, KnownTetra, tetraIds, Small, rowsMost, solid};
+ghost use Rattle.emit.specs.inner.Corners.{most};
+ghost use Rattle.emit.specs.inner.Stencils.{listed, KnownRows, allIds, KnownTetra, tetraIds, Small, rowsMost, solid};
 
 fn write(rows: &mut [u32], at: usize, n: usize, r: Rows)
     requires { ⌜ n ≤ most ⌝ }

@@ -4,7 +4,7 @@ use Prim.Native.Nat.{ℕ}
 use mathlib.Core.Path.{_≡_, refl}
 use mathlib.Core.List.{[], _∷_}
 use lib.IntN.{ℤ, pos}
-use Rattle.basics.specs.Table.{Entry, _:=_, tableOf}
+use Rattle.basics.specs.cases.Table.{Entry, _:=_, tableOf}
 use Rattle.lattice.specs.Axis.{Axis, along-x, along-y, along-z, xyz}
 use Rattle.lattice.specs.Counts.{cells, points}
 use Rattle.lattice.specs.Point.{linear, cell, kindOf}

@@ -20,7 +20,7 @@ use Rattle.lattice.specs.Counts.{Sized, along, grid, cells, corners}
 use Rattle.lattice.specs.Point.{doubled, other, Inside, linear, number, cell, kindOf}
 use Rattle.lattice.specs.Direction.{Step, long, Code, isStart, directionOf, step}
 use Rattle.lattice.specs.Edge.{staysIn, exists, farKind, farIndex, near}
-use Rattle.lattice.specs.Site.{oddOf, Sited, index, siteAt, siteOf, staysBy, shiftAlong, turnedShift, shiftOf, risen, fallen}
+use Rattle.lattice.specs.inner.Site.{oddOf, Sited, index, siteAt, siteOf, staysBy, shiftAlong, turnedShift, shiftOf, risen, fallen}
 use Rattle.lattice.proofs.Number.{cell-in, kind-low, kind-high}
 use Rattle.lattice.proofs.Codes.{one-way, long-even, short-one, up-small, down-small}
 use Rattle.lattice.proofs.Bounds.{linear-small, corners-small}

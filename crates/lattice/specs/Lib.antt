@@ -4,4 +4,4 @@ pub mod Point
 pub mod Direction
 pub mod Edge
 pub mod Rim
-pub mod Site
+pub mod inner

@@ -12,7 +12,7 @@ ghost use Rattle.lattice.specs.Counts.{Sized};
 ghost use Rattle.lattice.specs.Direction.{Code};
 ghost use Rattle.lattice.specs.Point.{number};
 ghost use Rattle.lattice.specs.Edge.{exists, farKind, farIndex, near, edgeByte};
-ghost use Rattle.lattice.specs.Site.{Sited, index, oddOf, staysBy, shiftAlong, shiftOf, risen, fallen, Stride};
+ghost use Rattle.lattice.specs.inner.Site.{Sited, index, oddOf, staysBy, shiftAlong, shiftOf, risen, fallen, Stride};
 
 // So far up along x, y and z, and so far down.
 fn shift_by(ux: usize, uy: usize, uz: usize, dx: usize, dy: usize, dz: usize) -> Shift

@@ -8,7 +8,7 @@ ghost use Prim.Native.Nat.{_+_, _*_, _<_, _≤_};
 ghost use Rattle.lattice.specs.Axis.{xyz};
 ghost use Rattle.lattice.specs.Counts.{Sized, corners, points};
 ghost use Rattle.lattice.specs.Point.{number};
-ghost use Rattle.lattice.specs.Site.{siteAt, siteOf};
+ghost use Rattle.lattice.specs.inner.Site.{siteAt, siteOf};
 
 // The number of a cell in a grid of a by b by any.
 pub fn linear(a: usize, b: usize, x: usize, y: usize, z: usize) -> usize

@@ -7,7 +7,7 @@ ghost use Prim.Native.Nat.{_≤_};
 ghost use Rattle.lattice.specs.Axis.{xyz, somewhere};
 ghost use Rattle.lattice.specs.Counts.{Sized};
 ghost use Rattle.lattice.specs.Rim.{outermost, rimAt};
-ghost use Rattle.lattice.specs.Site.{Sited, index};
+ghost use Rattle.lattice.specs.inner.Site.{Sited, index};
 
 // The first or the last of m along an axis.
 pub fn is_outermost(m: usize, i: usize) -> bool

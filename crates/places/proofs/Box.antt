@@ -14,7 +14,7 @@ use mir.Val.{Fits, SFits, toZ, ofZ}
 use mir.ValLaws.{toZ-ofZ}
 use Rattle.lattice.specs.Axis.{Axis, along-x, along-y, along-z}
 use Rattle.places.specs.declared.Place.{Place}
-use Rattle.places.specs.Places.{Within, InBox, latticeBox, placeBox, placeAt}
+use Rattle.places.specs.inner.Places.{Within, InBox, latticeBox, placeBox, placeAt}
 
 negated : (a : ℤ) → natAbs (negℤ a) ≡ natAbs a
 negated (pos zero) = refl

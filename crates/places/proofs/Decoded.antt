@@ -10,7 +10,7 @@ use Rattle.lattice.specs.Axis.{Axis, along-x, along-y, along-z}
 use Rattle.lattice.specs.Counts.{Sized, points}
 use Rattle.lattice.specs.Point.{kindOf, indexOf}
 use Rattle.lattice.specs.Edge.{near, neighbour}
-use Rattle.lattice.specs.Site.{index, siteAt, siteOf}
+use Rattle.lattice.specs.inner.Site.{index, siteAt, siteOf}
 use Rattle.lattice.proofs.Sites.{site-small}
 use Rattle.warp.proofs.Sites.{siting}
 use Rattle.geometry.specs.Place.{latticePlace, rest}

@@ -9,11 +9,11 @@ use Rattle.lattice.specs.declared.Kind.{Kind}
 use Rattle.lattice.specs.Axis.{Axis}
 use Rattle.lattice.specs.Point.{doubled}
 use Rattle.lattice.specs.Direction.{Step, Code, isStart, directionOf, direction, step}
-use Rattle.lattice.specs.Site.{oddOf}
+use Rattle.lattice.specs.inner.Site.{oddOf}
 use Rattle.lattice.proofs.Sites.{doubled-odd, odd-small}
 use Rattle.moving.specs.Violation.{measured}
 use Rattle.geometry.specs.Place.{signed}
-use Rattle.places.specs.Places.{Within, along, latticeBox, placeBox}
+use Rattle.places.specs.inner.Places.{Within, along, latticeBox, placeBox}
 use Rattle.places.proofs.Box.{Is, back, held, result-is, nat-within}
 
 -- a lattice coordinate as the code computes it

@@ -3,7 +3,7 @@ use Prim.Native.Nat.{ℕ, _*_}
 use lib.IntN.{_-ℤ_, _*ℤ_}
 use Rattle.lattice.specs.Axis.{Axis}
 use Rattle.places.specs.declared.Place.{Place}
-use Rattle.places.specs.Places.{InBox, placeBox, placeAt}
+use Rattle.places.specs.inner.Places.{InBox, placeBox, placeAt}
 use Rattle.places.proofs.Box.{Is, back, at, mul-is, sub-is}
 
 -- boxes around differences, and around products of two of them

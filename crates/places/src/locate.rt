@@ -15,8 +15,8 @@ ghost use Rattle.lattice.specs.Counts.{Sized, points};
 ghost use Rattle.lattice.specs.Direction.{Code};
 ghost use Rattle.lattice.specs.Edge.{neighbour};
 ghost use Rattle.filling.specs.Located.{locate};
-ghost use Rattle.places.specs.Places.{placeAt, InBox, placeBox, Nonnegative};
-ghost use Rattle.places.specs.Answer.{placedAt, refusedWith, movedAnswer, pointAnswer, cutAnswer};
+ghost use Rattle.places.specs.inner.Places.{placeAt, InBox, placeBox, Nonnegative};
+ghost use Rattle.places.specs.inner.Answer.{placedAt, refusedWith, movedAnswer, pointAnswer, cutAnswer};
 
 fn answered(p: Place) -> Placed
     requires { ⌜ InBox placeBox p ⌝ }

@@ -9,7 +9,7 @@ ghost use Rattle.lattice.specs.Axis.{xyz};
 ghost use Rattle.lattice.specs.Direction.{Code, direction, step};
 ghost use Rattle.moving.specs.Violation.{measured};
 ghost use Rattle.geometry.specs.Place.{latticePlace};
-ghost use Rattle.places.specs.Places.{placeAt, along, Within, InBox, latticeBox, placeBox};
+ghost use Rattle.places.specs.inner.Places.{placeAt, along, Within, InBox, latticeBox, placeBox};
 
 // A lattice coordinate.
 fn coordinate(i: usize, odd: usize) -> i64

@@ -2,7 +2,7 @@
 use crate::Place;
 ghost use mathlib.Core.Path.{_≡_};
 ghost use Rattle.geometry.specs.Volume.{difference, cross, dot, sixVolume};
-ghost use Rattle.places.specs.Places.{placeAt, InBox, placeBox};
+ghost use Rattle.places.specs.inner.Places.{placeAt, InBox, placeBox};
 
 fn difference(p: Place, q: Place) -> Place
     requires { ⌜ InBox placeBox p ⌝ }

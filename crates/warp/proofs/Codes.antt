@@ -24,8 +24,8 @@ use Rattle.moving.specs.Violation.{violates}
 use Rattle.moving.specs.Moving.{labelAfter, live, violatedAlong, violatedBy, choice, codes, stateOf}
 use Rattle.moving.proofs.Moved.{codes-length}
 use Rattle.filling.specs.Fill.{movedCount}
-use Rattle.audit.specs.Lines.{Line}
-use Rattle.warp.specs.Quick.{Coded}
+use Rattle.checks.specs.inner.Lines.{Line}
+use Rattle.warp.specs.inner.Quick.{Coded}
 
 -- an edge's byte is in the table
 pub byte-lt : (n p c q : ℕ) → Code c → p < n → q < n → edgeByte p c q < 7 * n

@@ -16,16 +16,16 @@ use Rattle.lattice.specs.Axis.{along-x}
 use Rattle.lattice.specs.Counts.{Sized, grid}
 use Rattle.lattice.specs.Direction.{Code}
 use Rattle.lattice.specs.Edge.{near, neighbour, edgeByte}
-use Rattle.lattice.specs.Site.{Sited, index}
+use Rattle.lattice.specs.inner.Site.{Sited, index}
 use Rattle.lattice.proofs.Sites.{by-direction}
 use Rattle.moving.specs.Block.{Block, blockOf, cutByte}
 use Rattle.moving.specs.Violation.{violates}
 use Rattle.moving.specs.Moving.{live, violatedAlong, violatedBy, choice, codes}
 use Rattle.filling.specs.Fill.{movedCount}
-use Rattle.audit.specs.Lines.{Line, lineAt}
-use Rattle.audit.proofs.Points.{sited}
-use Rattle.audit.proofs.Lines.{line-stands, line-at}
-use Rattle.warp.specs.Quick.{startsAt, Offsets, Spared, Uncut, Idle, Coded}
+use Rattle.checks.specs.inner.Lines.{Line, lineAt}
+use Rattle.checks.proofs.Points.{sited}
+use Rattle.checks.proofs.Lines.{line-stands, line-at}
+use Rattle.warp.specs.inner.Quick.{startsAt, Offsets, Spared, Uncut, Idle, Coded}
 use Rattle.warp.proofs.Sites.{site-near}
 use Rattle.warp.proofs.Codes.{Searching, search-starts, search-on, search-ends, coded-next, counted-still}
 use Rattle.warp.proofs.Starts.{byte-start, byte-end, start-first, start-fourth, start-sixth, start-within}

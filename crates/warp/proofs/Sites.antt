@@ -6,13 +6,13 @@ use Rattle.lattice.specs.declared.Site.{Site}
 use Rattle.lattice.specs.Axis.{along-x}
 use Rattle.lattice.specs.Counts.{Sized, grid, points}
 use Rattle.lattice.specs.Edge.{near, neighbour}
-use Rattle.lattice.specs.Site.{index, siteOf, Sited}
+use Rattle.lattice.specs.inner.Site.{index, siteOf, Sited}
 use Rattle.lattice.proofs.Number.{number-lt}
 use Rattle.lattice.proofs.Edge.{near-number}
 use Rattle.lattice.proofs.Sites.{site-inside}
-use Rattle.audit.specs.Lines.{Line, lineAt}
-use Rattle.audit.proofs.Points.{Stands, own-at, sited}
-use Rattle.audit.proofs.Lines.{line-at}
+use Rattle.checks.specs.inner.Lines.{Line, lineAt}
+use Rattle.checks.proofs.Points.{Stands, own-at, sited}
+use Rattle.checks.proofs.Lines.{line-at}
 
 -- the site of a number is what it says, and has that number
 pub siting : (s : Sizes) (p : ℕ) (q : Site) → q ≡ siteOf s p → p < points s → Sited s q × (q .own ≡ p)

@@ -19,11 +19,11 @@ use Rattle.lattice.specs.Counts.{Sized, grid, cells}
 use Rattle.lattice.specs.Point.{other, linear, number}
 use Rattle.lattice.specs.Direction.{Code, directions, direction, long, isStart, directionOf, step}
 use Rattle.lattice.specs.Edge.{exists, farKind, farIndex, near, edgeByte}
-use Rattle.lattice.specs.Site.{Sited, index, oddOf}
+use Rattle.lattice.specs.inner.Site.{Sited, index, oddOf}
 use Rattle.lattice.proofs.Edge.{stays}
 use Rattle.lattice.proofs.Sites.{by-direction, number-add, far-index, near-yes, near-no, numbers-small}
-use Rattle.audit.specs.Lines.{lineAt}
-use Rattle.warp.specs.Quick.{startsBack, startsOf, startsAt, Offsets}
+use Rattle.checks.specs.inner.Lines.{lineAt}
+use Rattle.warp.specs.inner.Quick.{startsBack, startsOf, startsAt, Offsets}
 
 -- an edge leads some cells up and some down in the grid of its far end
 strides : (s : Sizes) (k : Kind) (i : Axis → ℕ) (c e : ℕ) → Code c → near s k i c ≡ At e

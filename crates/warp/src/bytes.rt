@@ -1,7 +1,7 @@
 // The cut bytes of a point's fourteen edges, by strides: quick, and without asking which of the
 // edges exist.
-use audit::ranges;
-use audit::walk;
+use checks::ranges;
+use checks::walk;
 use lattice::Kind;
 use lattice::Site;
 use lattice::Sizes;
@@ -13,10 +13,10 @@ ghost use lib.IntN.{ℤ};
 ghost use lib.ListN.{getD};
 ghost use Rattle.lattice.specs.Axis.{along-x};
 ghost use Rattle.lattice.specs.Counts.{Sized, grid};
-ghost use Rattle.lattice.specs.Site.{Sited};
+ghost use Rattle.lattice.specs.inner.Site.{Sited};
 ghost use Rattle.moving.specs.Block.{blockOf};
-ghost use Rattle.audit.specs.Lines.{Line};
-ghost use Rattle.warp.specs.Quick.{startsBack, startsAt, Offsets, Uncut, Idle};
+ghost use Rattle.checks.specs.inner.Lines.{Line};
+ghost use Rattle.warp.specs.inner.Quick.{startsBack, startsAt, Offsets, Uncut, Idle};
 
 // So many numbers before p, or 0.
 fn before(p: usize, stride: usize) -> usize

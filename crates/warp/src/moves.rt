@@ -1,7 +1,7 @@
 // Which points move, and by which code.
 use crate::bytes;
 use crate::violation;
-use audit::walk;
+use checks::walk;
 use lattice::Near;
 use lattice::Site;
 use lattice::Sizes;
@@ -19,13 +19,13 @@ ghost use Rattle.lattice.specs.Axis.{along-x};
 ghost use Rattle.lattice.specs.Counts.{grid, points};
 ghost use Rattle.lattice.specs.Direction.{Code};
 ghost use Rattle.lattice.specs.Edge.{near, edgeByte};
-ghost use Rattle.lattice.specs.Site.{Sited, index};
+ghost use Rattle.lattice.specs.inner.Site.{Sited, index};
 ghost use Rattle.moving.specs.Block.{Block, blockOf, Tabled};
 ghost use Rattle.moving.specs.Label.{isZero};
 ghost use Rattle.moving.specs.Moving.{labelAfter, live, violatedBy, codes, stateOf};
 ghost use Rattle.filling.specs.Fill.{movedCount};
-ghost use Rattle.audit.specs.Lines.{Line};
-ghost use Rattle.warp.specs.Quick.{Spared, Idle, Coded};
+ghost use Rattle.checks.specs.inner.Lines.{Line};
+ghost use Rattle.warp.specs.inner.Quick.{Spared, Idle, Coded};
 
 // A point's label is zero: its sample is, or it is among the points done and has moved. Sizes and
 // cuts do not enter.

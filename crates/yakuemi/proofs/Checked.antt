@@ -11,8 +11,8 @@ use Rattle.lattice.specs.Counts.{points}
 use Rattle.moving.specs.Block.{Block, Tabled}
 use Rattle.filling.specs.Check.{rimFault, cutFault, firstRim, firstCut}
 use Rattle.filling.proofs.Accepted.{Accepted}
-use Rattle.audit.specs.declared.Fault.{Fault}
-use Rattle.audit.specs.Faults.{numberOf, placeOf, CutAnswer}
+use Rattle.checks.specs.declared.Fault.{Fault}
+use Rattle.checks.specs.inner.Faults.{numberOf, placeOf, CutAnswer}
 
 -- a fault of the cut table: its number and its place
 pub record Faulty (b : Block) (n o : ℕ) : Type 0 where

@@ -6,9 +6,9 @@ use Rattle.moving.specs.Block.{Block}
 use Rattle.geometry.specs.Place.{placeOf}
 use Rattle.filling.specs.declared.Filled.{Filled}
 use Rattle.filling.specs.Demand.{Conforms, OnSkin, rowsRead}
-use Rattle.mesh.proofs.Warp.{Bytes}
-use Rattle.mesh.proofs.Demand3.{demand-3-written}
-use Rattle.yakuemi.specs.Fills.{Fills}
+use Rattle.conformity.proofs.Warp.{Bytes}
+use Rattle.conformity.proofs.Demand3.{demand-3-written}
+use Rattle.yakuemi.specs.inner.Fills.{Fills}
 
 pub conforming : (b : Block) (state rows : List ℕ) (r : Filled) (stateAfter rowsAfter : List ℕ) → Fills b state rows r stateAfter rowsAfter → Bytes b
     → r .number ≡ 0 → Conforms (rowsRead rowsAfter (r .rows)) (placeOf (b .sizes) (b .cuts) stateAfter) (OnSkin b)

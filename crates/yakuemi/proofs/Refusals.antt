@@ -10,7 +10,7 @@ use Rattle.moving.specs.Block.{Block}
 use Rattle.filling.specs.declared.Filled.{Filled}
 use Rattle.filling.specs.Check.{cutFault, firstRim, firstCut}
 use Rattle.filling.specs.Fill.{Outcome, refused, written, fill}
-use Rattle.yakuemi.specs.Fills.{Fills}
+use Rattle.yakuemi.specs.inner.Fills.{Fills}
 
 module _ (b : Block) (state rows : List ℕ) where
   -- an outcome, part by part

@@ -12,7 +12,7 @@ use Rattle.moving.specs.Moving.{stateOf}
 use Rattle.filling.specs.Mesh.{meshOf, table}
 use Rattle.filling.specs.Fill.{movedCount, overwritten, written, fill}
 use Rattle.filling.proofs.Accepted.{Accepted, accepted-fills}
-use Rattle.yakuemi.specs.Fills.{Fills}
+use Rattle.yakuemi.specs.inner.Fills.{Fills}
 use Rattle.yakuemi.proofs.Refusals.{fills}
 
 module _ (b : Block) (state rows : List ℕ) (accepted : Accepted b) (long : length state ≡ points (b .sizes))

@@ -1,3 +1,3 @@
-pub mod Fills
 pub mod Measures
 pub mod Reads
+pub mod inner

@@ -1,5 +1,5 @@
 // Filling a block with tetrahedra.
-use audit::Fault;
+use checks::Fault;
 use filling::Filled;
 use lattice::Sizes;
 use lattice::counts;
@@ -12,7 +12,7 @@ ghost use Rattle.filling.specs.Fill.{fill};
 ghost use Rattle.filling.specs.Demand.{Conforms, OnSkin, rowsRead};
 ghost use Rattle.filling.proofs.Accepted.{Accepted};
 ghost use Rattle.yakuemi.specs.Measures.{sizes};
-ghost use Rattle.yakuemi.specs.Fills.{Fills};
+ghost use Rattle.yakuemi.specs.inner.Fills.{Fills};
 
 fn refused(number: u32, place: usize) -> Filled
     ensures { λ r. ⌜ r ≡ record { number = number; rows = 0; moved = 0; place = place } ⌝ }
@@ -66,11 +66,11 @@ fn fill_tabled(s: Sizes, samples: &[i16], cuts: &[u8], state: &mut [u8], rows: &
         (now (state .entry)) (now (rows .entry)) r (now (state .exit)) (now (rows .exit)) ⌝ }
 {
     let n = counts::point_count(s);
-    let first = audit::rim::first_rim(s, samples);
+    let first = checks::rim::first_rim(s, samples);
     if first < n {
         return refused(5, first);
     }
-    let fault = audit::cuts::first_cut(s, samples, cuts);
+    let fault = checks::cuts::first_cut(s, samples, cuts);
     match fault {
         Fault::Gap(o) => refused(6, o),
         Fault::Stray(o) => refused(7, o),

@@ -1,5 +1,5 @@
 -- A point's id is its number, a cut's is N+7p+d, and both fit 32 bits. Assumes nothing.
-use Rattle.emit.specs.Corners.{cornerId}
+use Rattle.emit.specs.inner.Corners.{cornerId}
 use native.Mathlib.Omega.{arith}
 use mathlib.Core.Path.{sym, ap}
 use borrow.Author.Needs.{needs}

@@ -1,5 +1,5 @@
 -- A corner that is a lattice point. Assumes nothing.
-use Rattle.emit.specs.Corners.{pointAt}
+use Rattle.emit.specs.inner.Corners.{pointAt}
 use Rattle.emit.specs.declared.Corner.the-variants.{Point}
 use mathlib.Core.Path.{ap}
 use borrow.Author.Needs.{needs}

@@ -1,5 +1,5 @@
 -- Four ids, written one after the other. Assumes nothing.
-use Rattle.emit.specs.Corners.{rowIds}
+use Rattle.emit.specs.inner.Corners.{rowIds}
 use native.Mathlib.Numerals.{towards-suc}
 use lib.ListN.{length-set}
 use native.Mathlib.Omega.{arith}

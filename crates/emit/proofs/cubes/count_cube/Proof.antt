@@ -1,6 +1,6 @@
 -- The four patterns, one by one. Assumes nothing.
-use Rattle.emit.specs.Picks.{sum}
-use Rattle.emit.specs.Cubes.{cubeCount}
+use Rattle.emit.specs.inner.Picks.{sum}
+use Rattle.emit.specs.inner.Cubes.{cubeCount}
 use Prim.Native.Nat.{_+_}
 use native.Mathlib.Omega.{arith}
 use borrow.Author.Needs.{needs}

@@ -1,5 +1,5 @@
 -- Six points, one by one. Assumes nothing.
-use Rattle.emit.specs.Cubes.{plusCount}
+use Rattle.emit.specs.inner.Cubes.{plusCount}
 use borrow.Author.Needs.{needs}
 use Rattle.emit.proofs.cubes.count_plus.Statement.{statement}
 use Rattle.emit.proofs.cubes.count_plus.Tie as tie

@@ -1,5 +1,5 @@
 -- Six points, one by one. Assumes nothing.
-use Rattle.emit.specs.Cubes.{unmoved}
+use Rattle.emit.specs.inner.Cubes.{unmoved}
 use borrow.Author.Needs.{needs}
 use Rattle.emit.proofs.cubes.is_unmoved.Statement.{statement}
 use Rattle.emit.proofs.cubes.is_unmoved.Tie as tie

@@ -1,6 +1,6 @@
 -- The corners of a tetrahedron of the turn, ascending. Assumes nothing.
 use Rattle.emit.proofs.CubeLaws.{last-quarter}
-use Rattle.emit.specs.Cubes.{quarterOf}
+use Rattle.emit.specs.inner.Cubes.{quarterOf}
 use mathlib.Core.Path.{sym, ap}
 use native.Mathlib.Omega.{arith}
 use borrow.Author.Needs.{needs}

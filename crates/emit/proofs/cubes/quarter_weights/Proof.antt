@@ -1,6 +1,6 @@
 -- Their weights, in the same order. Assumes nothing.
 use Rattle.emit.proofs.CubeLaws.{last-weights}
-use Rattle.emit.specs.Cubes.{quarterWeights}
+use Rattle.emit.specs.inner.Cubes.{quarterWeights}
 use mathlib.Core.Path.{sym, ap}
 use native.Mathlib.Omega.{arith}
 use borrow.Author.Needs.{needs}

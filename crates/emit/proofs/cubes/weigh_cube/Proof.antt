@@ -1,5 +1,5 @@
 -- Six weights, each read once. Assumes nothing.
-use Rattle.emit.specs.Cubes.{cubeWeights}
+use Rattle.emit.specs.inner.Cubes.{cubeWeights}
 use native.Mathlib.Omega.{arith}
 use borrow.Author.Needs.{needs}
 use Rattle.emit.proofs.cubes.weigh_cube.Statement.{statement}

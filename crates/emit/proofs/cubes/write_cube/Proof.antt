@@ -1,7 +1,7 @@
 -- Nothing without a plus; four rows where six points are plus and have not moved; else by the labels. Assumes nothing.
 use Rattle.emit.proofs.CubeLaws.{known-as, cube-as, cube-room, bare-written, solid-is}
 use Rattle.emit.proofs.Written.{same-ids}
-use Rattle.emit.specs.Cubes.{solidCube}
+use Rattle.emit.specs.inner.Cubes.{solidCube}
 use mathlib.Core.Path.{sym, _∙_}
 use native.Mathlib.Omega.{arith}
 use borrow.Author.Needs.{needs}

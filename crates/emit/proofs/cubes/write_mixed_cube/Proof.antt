@@ -2,7 +2,7 @@
 -- far is what the edges so far give. Assumes nothing.
 use Rattle.emit.proofs.CubeLaws.{known-as, edge-is, edge-known, edge-small, edge-most, cube-as, cube-room, cube-counted}
 use Rattle.emit.proofs.Written.{same-ids, Written, none-written, more-written, fits-left, sets-none, index-most, kept-long, all-written}
-use Rattle.emit.specs.Cubes.{edgeIds}
+use Rattle.emit.specs.inner.Cubes.{edgeIds}
 use Rattle.basics.specs.Lists.{gather, below}
 use Prim.Native.Nat.{_-_, _≤_}
 use native.Mathlib.Omega.{arith}

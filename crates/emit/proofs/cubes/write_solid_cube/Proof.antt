@@ -2,7 +2,7 @@
 use Rattle.emit.proofs.StencilLaws.{solid-long}
 use Rattle.emit.proofs.CubeLaws.{edge-known, solid-quarter, solid-edge, solid-edge-most, solid-cube-long}
 use Rattle.emit.proofs.Written.{Written, none-written, more-written, room-left, index-most, sets-none, kept-long, all-written}
-use Rattle.emit.specs.Cubes.{edgeIds, solidCube}
+use Rattle.emit.specs.inner.Cubes.{edgeIds, solidCube}
 use Rattle.basics.specs.Lists.{gather, below}
 use Prim.Native.Nat.{_-_, _≤_}
 use native.Mathlib.Omega.{arith}

@@ -1,5 +1,5 @@
 -- Six points, each by its stride. Assumes nothing.
-use Rattle.emit.specs.Passes.{movedCube}
+use Rattle.emit.specs.inner.Passes.{movedCube}
 use mathlib.Core.Path.{refl}
 use native.Mathlib.Omega.{arith}
 use borrow.Author.Needs.{needs}

@@ -1,9 +1,9 @@
 -- The strides along each axis, and how many cubes have a next one. Assumes nothing.
 use Rattle.emit.proofs.PassLaws.{layer-small, last-axis, along-x-is, along-y-is, along-z-is}
-use Rattle.emit.specs.Corners.{axisAt}
+use Rattle.emit.specs.inner.Corners.{axisAt}
 use mathlib.Core.Path.{sym, ap, _∙_}
 use Prim.Native.Nat.{ℕ}
-use Rattle.emit.specs.Passes.{passOf}
+use Rattle.emit.specs.inner.Passes.{passOf}
 use Rattle.lattice.proofs.Bounds.{small}
 use native.Mathlib.Nat.{mul-le-mul}
 use Prim.Native.Nat.{_+_}

@@ -1,5 +1,5 @@
 -- The strides add up. Assumes nothing.
-use Rattle.emit.specs.Passes.{stepBy}
+use Rattle.emit.specs.inner.Passes.{stepBy}
 use mathlib.Core.Path.{refl}
 use native.Mathlib.Omega.{arith}
 use borrow.Author.Needs.{needs}

@@ -1,7 +1,7 @@
 -- Lines, one after the other. Assumes nothing.
 use Rattle.emit.proofs.PassLaws.{line-most}
 use Rattle.emit.proofs.Written.{Written, none-written, more-written, room-left, index-most, kept-long, all-written}
-use Rattle.emit.specs.Passes.{lineIds, layerIds, lineMost}
+use Rattle.emit.specs.inner.Passes.{lineIds, layerIds, lineMost}
 use mathlib.Core.Path.{refl}
 use Prim.Native.Nat.{_-_, _≤_}
 use native.Mathlib.Omega.{arith}

@@ -1,7 +1,7 @@
 -- Layers, one after the other. Assumes nothing.
 use Rattle.emit.proofs.PassLaws.{layer-most}
 use Rattle.emit.proofs.Written.{Written, none-written, more-written, room-left, index-most, kept-long, all-written}
-use Rattle.emit.specs.Passes.{layerIds, passIds, layerMost}
+use Rattle.emit.specs.inner.Passes.{layerIds, passIds, layerMost}
 use mathlib.Core.Path.{refl}
 use Prim.Native.Nat.{_-_, _≤_}
 use native.Mathlib.Omega.{arith}

@@ -1,7 +1,7 @@
 -- Nothing where no cube has a plus; else cubes, one after the other along x. Assumes nothing.
 use Rattle.emit.proofs.PassLaws.{run-from, run-within, run-known, run-as, placed-is, placed-most, bare-run-written}
 use Rattle.emit.proofs.Written.{Written, none-written, more-written, room-left, index-most, kept-long, all-written}
-use Rattle.emit.specs.Passes.{placedIds, runIds}
+use Rattle.emit.specs.inner.Passes.{placedIds, runIds}
 use Prim.Native.Nat.{_-_, _≤_}
 use native.Mathlib.Omega.{arith}
 use borrow.Author.Needs.{needs}

@@ -1,5 +1,5 @@
 -- The corners of a weight, picked from the last to the first, stand ascending before the rest. Assumes nothing.
-use Rattle.emit.specs.Picks.{chosen}
+use Rattle.emit.specs.inner.Picks.{chosen}
 use borrow.Author.Needs.{needs}
 use Rattle.emit.proofs.picks.choose.Statement.{statement}
 use Rattle.emit.proofs.picks.choose.Tie as tie

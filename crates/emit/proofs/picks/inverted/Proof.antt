@@ -1,5 +1,5 @@
 -- One pair of corners. Assumes nothing.
-use Rattle.emit.specs.Picks.{inversion}
+use Rattle.emit.specs.inner.Picks.{inversion}
 use borrow.Author.Tests.{lt-ltb, le-ltb}
 use native.Mathlib.Omega.{arith}
 use Rattle.emit.proofs.picks.inverted.Statement.{statement}

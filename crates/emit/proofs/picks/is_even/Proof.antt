@@ -1,5 +1,5 @@
 -- Six pairs of corners, counted. Assumes nothing.
-use Rattle.emit.specs.Picks.{isEven}
+use Rattle.emit.specs.inner.Picks.{isEven}
 use borrow.Author.Needs.{needs}
 use Rattle.emit.proofs.picks.is_even.Statement.{statement}
 use Rattle.emit.proofs.picks.is_even.Tie as tie

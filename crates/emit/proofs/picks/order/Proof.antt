@@ -1,5 +1,5 @@
 -- Plus, minus and zero corners, each ascending. Assumes nothing.
-use Rattle.emit.specs.Picks.{ordered}
+use Rattle.emit.specs.inner.Picks.{ordered}
 use borrow.Author.Needs.{needs}
 use Rattle.emit.proofs.picks.order.Statement.{statement}
 use Rattle.emit.proofs.picks.order.Tie as tie

@@ -1,5 +1,5 @@
 -- A corner before the rest, if it is taken. Assumes nothing.
-use Rattle.emit.specs.Picks.{picked}
+use Rattle.emit.specs.inner.Picks.{picked}
 use Rattle.emit.proofs.picks.pick.Statement.{statement}
 use Rattle.emit.proofs.picks.pick.Tie as tie
 

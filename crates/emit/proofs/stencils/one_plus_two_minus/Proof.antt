@@ -1,5 +1,5 @@
 -- The line +--0 of document 01's table. Assumes nothing.
-use Rattle.emit.specs.Stencils.{lines}
+use Rattle.emit.specs.inner.Stencils.{lines}
 use native.Mathlib.Omega.{arith}
 use borrow.Author.Needs.{needs}
 use Rattle.emit.proofs.stencils.one_plus_two_minus.Statement.{statement}

@@ -1,5 +1,5 @@
 -- The line "plus and zero only" of document 01's table. Assumes nothing.
-use Rattle.emit.specs.Stencils.{lines}
+use Rattle.emit.specs.inner.Stencils.{lines}
 use borrow.Author.Needs.{needs}
 use Rattle.emit.proofs.stencils.only_corners.Statement.{statement}
 use Rattle.emit.proofs.stencils.only_corners.Tie as tie

@@ -1,6 +1,6 @@
 -- How many rows each line of the table has. Assumes nothing.
 use Rattle.emit.proofs.StencilLaws.{count-one}
-use Rattle.emit.specs.Stencils.{rowCount}
+use Rattle.emit.specs.inner.Stencils.{rowCount}
 use Rattle.stencil.specs.Stencil.{stencilOf}
 use borrow.Author.Tests.{le-leb}
 use mathlib.Core.Path.{sym, ap}

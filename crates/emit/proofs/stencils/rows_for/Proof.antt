@@ -1,5 +1,5 @@
 -- The pattern's number chooses the line of the table. Assumes nothing.
-use Rattle.emit.specs.Stencils.{lines, stencilRows}
+use Rattle.emit.specs.inner.Stencils.{lines, stencilRows}
 use Rattle.stencil.specs.Stencil.{stencilOf}
 use borrow.Author.Tests.{le-leb, lt-leb, ne-eqb}
 use mathlib.Core.Path.{sym, ap, _∙_}

@@ -2,7 +2,7 @@
 use mathlib.Core.Bool.{not}
 use Rattle.emit.proofs.StencilLaws.{row-is}
 use mathlib.Core.List.{[], _∷_}
-use Rattle.emit.specs.Stencils.{lines}
+use Rattle.emit.specs.inner.Stencils.{lines}
 use native.Mathlib.Omega.{arith}
 use borrow.Author.Needs.{needs}
 use Rattle.emit.proofs.stencils.three_plus_one_minus.Statement.{statement}

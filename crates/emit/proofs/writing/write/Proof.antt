@@ -1,6 +1,6 @@
 -- One, two or three rows, one after the other. Assumes nothing.
 use Rattle.emit.proofs.StencilLaws.{first-known, rest-known, one-row, then-rows}
-use Rattle.emit.specs.Stencils.{allIds}
+use Rattle.emit.specs.inner.Stencils.{allIds}
 use Rattle.basics.specs.Lists.{gather}
 use native.Mathlib.Nat.{add-assoc}
 use mathlib.Core.Path.{refl}

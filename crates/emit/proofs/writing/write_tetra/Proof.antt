@@ -1,6 +1,6 @@
 -- Nothing without a plus; else the rows of the pattern. Assumes nothing.
 use Rattle.emit.proofs.StencilLaws.{none-for, in-order, known-for, room-for, written-for}
-use Rattle.emit.specs.Picks.{sum}
+use Rattle.emit.specs.inner.Picks.{sum}
 use native.Mathlib.Omega.{arith}
 use borrow.Author.Needs.{needs}
 use Rattle.emit.proofs.writing.write_tetra.Statement.{statement}

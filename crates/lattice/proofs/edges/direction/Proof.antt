@@ -4,7 +4,7 @@ use native.Mathlib.Omega.{arith}
 use mathlib.Core.Path.{_≡_, sym, ap, _∙_}
 use Rattle.lattice.specs.declared.Shift.{Shift}
 use Rattle.lattice.specs.Direction.{directions, direction}
-use Rattle.lattice.specs.Site.{shiftAlong}
+use Rattle.lattice.specs.inner.Site.{shiftAlong}
 use borrow.Author.Needs.{needs}
 use Rattle.lattice.proofs.edges.direction.Statement.{statement}
 use Rattle.lattice.proofs.edges.direction.Tie as tie

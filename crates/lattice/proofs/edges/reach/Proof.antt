@@ -6,7 +6,7 @@ use Rattle.lattice.specs.declared.Kind.{Kind}
 use Rattle.lattice.specs.Axis.{along-x, along-y}
 use Rattle.lattice.specs.Counts.{grid}
 use Rattle.lattice.specs.Point.{number}
-use Rattle.lattice.specs.Site.{index}
+use Rattle.lattice.specs.inner.Site.{index}
 use Rattle.lattice.proofs.Sites.{odd-small, numbers-small, shift-small, stride-is, far-long, far-short, own-grid, other-grid}
 use borrow.Author.Needs.{needs}
 use Rattle.lattice.proofs.edges.reach.Statement.{statement}

@@ -1,6 +1,6 @@
 -- A code is its direction, or that turned round. Assumes nothing.
 use mathlib.Core.Path.{sym, ap, _∙_}
-use Rattle.lattice.specs.Site.{turnedShift}
+use Rattle.lattice.specs.inner.Site.{turnedShift}
 use Rattle.lattice.proofs.Sites.{shift-start, shift-end}
 use borrow.Author.Needs.{needs}
 use Rattle.lattice.proofs.edges.shift.Statement.{statement}

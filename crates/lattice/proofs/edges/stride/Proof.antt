@@ -1,6 +1,6 @@
 -- Up first, then down: the end is not below 0. Assumes nothing.
 use native.Mathlib.Omega.{arith}
-use Rattle.lattice.specs.Site.{risen, fallen}
+use Rattle.lattice.specs.inner.Site.{risen, fallen}
 use borrow.Author.Needs.{needs}
 use Rattle.lattice.proofs.edges.stride.Statement.{statement}
 use Rattle.lattice.proofs.edges.stride.Tie as tie

@@ -3,7 +3,7 @@ use native.Mathlib.Omega.{arith}
 use mathlib.Core.Path.{sym, ap, _∙_}
 use Rattle.lattice.specs.declared.Kind.{Kind}
 use Rattle.lattice.specs.Rim.{rimAt}
-use Rattle.lattice.specs.Site.{index}
+use Rattle.lattice.specs.inner.Site.{index}
 use Rattle.lattice.proofs.Sites.{site-small}
 use borrow.Author.Needs.{needs}
 use Rattle.lattice.proofs.rim.is_rim.Statement.{statement}

@@ -5,7 +5,7 @@ use Rattle.basics.proofs.Test.{Any₃, none-before, second-holds, first-holds}
 use Rattle.lattice.specs.declared.Site.{Site}
 use Rattle.lattice.specs.Axis.{xyz, somewhere}
 use Rattle.lattice.specs.Rim.{outermost}
-use Rattle.lattice.specs.Site.{index}
+use Rattle.lattice.specs.inner.Site.{index}
 use borrow.Author.Needs.{needs}
 use Rattle.lattice.proofs.rim.is_rim_of.Statement.{statement}
 use Rattle.lattice.proofs.rim.is_rim_of.Tie as tie

@@ -5,7 +5,7 @@ use Prim.Native.Nat.{ℕ, _*_, _-_}
 use borrow.Author.Tests.{not-true, not-false}
 use Rattle.lattice.proofs.Bounds.{points-small}
 use Rattle.lattice.proofs.Sized.{fits-sized}
-use Rattle.places.specs.Answer.{cutAnswer}
+use Rattle.places.specs.inner.Answer.{cutAnswer}
 use Rattle.places.proofs.Answers.{call-size, call-cuts, call-state, call-point, call-cut, call-past}
 use borrow.Author.Needs.{needs}
 use Rattle.places.proofs.locate.locate_id.Statement.{statement}

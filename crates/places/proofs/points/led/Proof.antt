@@ -5,8 +5,8 @@ use Rattle.lattice.proofs.Sites.{shift-small}
 use Rattle.lattice.specs.declared.Shift.{Shift}
 use Rattle.lattice.specs.Axis.{along-x, along-y, along-z}
 use Rattle.lattice.specs.Direction.{step}
-use Rattle.lattice.specs.Site.{shiftOf}
-use Rattle.places.specs.Places.{placeAt, along}
+use Rattle.lattice.specs.inner.Site.{shiftOf}
+use Rattle.places.specs.inner.Places.{placeAt, along}
 use Rattle.places.proofs.Box.{held, place-is, box-of}
 use Rattle.places.proofs.Standing.{stepped-is}
 use borrow.Author.Needs.{needs}

@@ -1,7 +1,7 @@
 -- Every product and every difference of two stays in its box. Assumes nothing.
 use Rattle.lattice.specs.Axis.{along-x, along-y, along-z}
 use Rattle.geometry.specs.Volume.{cross}
-use Rattle.places.specs.Places.{placeAt}
+use Rattle.places.specs.inner.Places.{placeAt}
 use Rattle.places.proofs.Box.{at, mul-fits, sub-fits, place-is, box-of}
 use Rattle.places.proofs.Terms.{product, minor}
 use Rattle.places.proofs.volume.cross_product.Statement.{statement}

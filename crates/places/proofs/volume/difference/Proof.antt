@@ -1,7 +1,7 @@
 -- Every difference stays in its box. Assumes nothing.
 use Rattle.lattice.specs.Axis.{along-x, along-y, along-z}
 use Rattle.geometry.specs.Volume.{difference}
-use Rattle.places.specs.Places.{placeAt}
+use Rattle.places.specs.inner.Places.{placeAt}
 use Rattle.places.proofs.Box.{at, sub-fits, place-is, box-of}
 use Rattle.places.proofs.Terms.{led}
 use Rattle.places.proofs.volume.difference.Statement.{statement}

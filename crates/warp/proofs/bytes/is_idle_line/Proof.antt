@@ -2,8 +2,8 @@
 use native.Mathlib.Omega.{arith}
 use mathlib.Core.Path.{sym, subst}
 use lib.Dec.{T}
-use Rattle.audit.proofs.Points.{sited}
-use Rattle.audit.proofs.Lines.{line-stands}
+use Rattle.checks.proofs.Points.{sited}
+use Rattle.checks.proofs.Lines.{line-stands}
 use Rattle.warp.proofs.Starts.{start-small}
 use Rattle.warp.proofs.Idle.{idle-line}
 use borrow.Author.Needs.{needs}

@@ -3,7 +3,7 @@ use native.Mathlib.Nat.{mul-le-mul}
 use native.Mathlib.Omega.{arith}
 use mathlib.Core.Path.{sym, ap, _∙_}
 use Rattle.lattice.specs.declared.Kind.{Kind}
-use Rattle.warp.specs.Quick.{startsOf, startsAt}
+use Rattle.warp.specs.inner.Quick.{startsOf, startsAt}
 use Rattle.lattice.proofs.Bounds.{small}
 use Rattle.lattice.proofs.Sites.{numbers-small}
 use Rattle.warp.proofs.Starts.{low-fits}

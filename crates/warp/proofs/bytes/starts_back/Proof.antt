@@ -1,6 +1,6 @@
 -- Seven numbers, as the definition lists them. Assumes nothing.
 use mathlib.Core.Path.{refl}
-use Rattle.warp.specs.Quick.{startsBack}
+use Rattle.warp.specs.inner.Quick.{startsBack}
 use borrow.Author.Needs.{needs}
 use Rattle.warp.proofs.bytes.starts_back.Statement.{statement}
 use Rattle.warp.proofs.bytes.starts_back.Tie as tie

@@ -5,7 +5,7 @@ use mathlib.Core.Path.{_≡_, refl, subst, _∙_}
 use mathlib.Core.List.{List}
 use lib.ListN.{length, length-set}
 use Rattle.moving.specs.Block.{Block}
-use Rattle.warp.specs.Quick.{Idle, Coded}
+use Rattle.warp.specs.inner.Quick.{Idle, Coded}
 use Rattle.warp.proofs.Idle.{coded-idle}
 use Rattle.warp.proofs.moves.rest.Statement.{statement}
 use Rattle.warp.proofs.moves.rest.Tie as tie

@@ -5,8 +5,8 @@ use mathlib.Core.List.{List}
 use Rattle.moving.specs.Block.{blockOf}
 use Rattle.moving.specs.Moving.{stateOf}
 use Rattle.filling.specs.Fill.{overwritten}
-use Rattle.mesh.proofs.Bridge.{sound}
-use Rattle.emit.specs.Mesh.{rowTotal, signedTable}
+use Rattle.conformity.proofs.Bridge.{sound}
+use Rattle.emit.specs.inner.Mesh.{rowTotal, signedTable}
 use Rattle.emit.proofs.Oriented.{rows-length, rows-are}
 use Rattle.yakuemi.proofs.Written.{too-short, long-enough}
 use borrow.Author.Needs.{needs}

@@ -7,7 +7,7 @@ use Rattle.moving.specs.Block.{blockOf}
 use Rattle.filling.specs.Check.{firstRim, firstCut}
 use Rattle.filling.specs.Fill.{refused}
 use Rattle.lattice.proofs.Sized.{sized-fits}
-use Rattle.audit.specs.Faults.{numberOf, placeOf}
+use Rattle.checks.specs.inner.Faults.{numberOf, placeOf}
 use Rattle.yakuemi.proofs.Refusals.{refusal-by, by-rim, by-byte}
 use Rattle.yakuemi.proofs.Checked.{at-fault, accept}
 use borrow.Author.Needs.{needs}

@@ -1,0 +1,32 @@
+-- A glance, or the whole test. Assumes nothing.
+use native.Mathlib.Omega.{arith}
+use Prim.Native.Nat.{ℕ}
+use mathlib.Core.Path.{sym, ap, _∙_}
+use mathlib.Core.Bool.{Bool}
+use mathlib.Core.List.{List}
+use Rattle.checks.specs.inner.Faults.{sevenFault}
+use borrow.Author.Needs.{needs}
+use Rattle.checks.proofs.cuts.site_fault.Statement.{statement}
+use Rattle.checks.proofs.cuts.site_fault.Tie as tie
+
+is-quiet-requires : tie.Need-is-quiet-requires
+is-quiet-requires c κs = search needs
+
+returns : tie.Need-returns
+returns c = (sym (c .before .is-quiet .ensures (c .if1 .taken)), omega arith)
+
+crossings-requires : tie.Need-crossings-requires
+crossings-requires c κs = search needs
+
+point-fault-requires : tie.Need-point-fault-requires
+point-fault-requires c κs = search needs
+
+returns-2 : tie.Need-returns-2
+returns-2 c =
+    let c5 = c .before .before .before .before .before in
+    (c .point-fault .ensures .0 ∙ ap (λ (m : List Bool). sevenFault m (c5 .args .bytes .now)) (c .before .crossings .ensures), c .point-fault .ensures .1)
+
+pub site-fault-spec : {M : Type 1} → statement M
+site-fault-spec =
+    tie.close
+    (tie.spec is-quiet-requires returns crossings-requires point-fault-requires returns-2)

@@ -1,0 +1,89 @@
+// Cut bytes that are missing or too many.
+use crate::Fault;
+use crate::crossing;
+use crate::quiet;
+use crate::seven;
+use crate::walk;
+use lattice::Site;
+use lattice::Sizes;
+use lattice::counts;
+use lattice::numbers;
+ghost use mathlib.Core.Path.{_≡_};
+ghost use mathlib.Core.List.{[]};
+ghost use Prim.Native.Nat.{_≤_};
+ghost use lib.ListN.{length};
+ghost use Rattle.moving.specs.Block.{blockOf, Tabled};
+ghost use Rattle.checks.specs.inner.Faults.{Asked, CutAnswer, crossingsAt, offsetOf, sevenFault, lineFault};
+ghost use Rattle.checks.specs.inner.Lines.{Line};
+
+// The first byte at fault of a point's seven, which are lent to it. Most points need only a glance.
+fn site_fault(s: Sizes, samples: &[i16], bytes: &[u8], q: Site) -> Fault
+    requires { ⌜ Asked s (now samples) q ⌝ }
+    requires { ⌜ length (now bytes) ≡ 7 ⌝ }
+    ensures { λ r. ⌜ r ≡ sevenFault (crossingsAt (blockOf s (now (samples .entry)) []) (q .own)) (now (bytes .entry)) ⌝ }
+    ensures { λ r. ⌜ offsetOf r ≤ 6 ⌝ }
+{
+    if quiet::is_quiet(s, samples, bytes, q) {
+        return Fault::Fine;
+    }
+    let must = crossing::crossings(s, samples, q);
+    seven::point_fault(bytes, must)
+}
+
+// The first byte at fault of a line of points, point by point.
+fn line_search(s: Sizes, samples: &[i16], cuts: &[u8], q: Site) -> Fault
+    requires { ⌜ Tabled (blockOf s (now samples) (now cuts)) ⌝ }
+    requires { ⌜ Line s (q .own) q ⌝ }
+    ensures { λ r. ⌜ r ≡ lineFault (blockOf s (now (samples .entry)) (now (cuts .entry))) q ⌝ }
+{
+    let kind = q.kind;
+    let own = q.own;
+    let m = walk::line_length(s, kind);
+    for x in 0..m {
+        let a = 7 * (own + x);
+        let e = a + 7;
+        let found = site_fault(s, samples, &cuts[a..e], walk::along(q, x));
+        match found {
+            Fault::Fine => {}
+            Fault::Gap(d) => return Fault::Gap(a + d),
+            Fault::Stray(d) => return Fault::Stray(a + d),
+        }
+    }
+    Fault::Fine
+}
+
+// The same; most lines need only a glance.
+fn line_fault(s: Sizes, samples: &[i16], cuts: &[u8], q: Site) -> Fault
+    requires { ⌜ Tabled (blockOf s (now samples) (now cuts)) ⌝ }
+    requires { ⌜ Line s (q .own) q ⌝ }
+    ensures { λ r. ⌜ r ≡ lineFault (blockOf s (now (samples .entry)) (now (cuts .entry))) q ⌝ }
+{
+    if quiet::is_quiet_line(s, samples, cuts, q) {
+        return Fault::Fine;
+    }
+    line_search(s, samples, cuts, q)
+}
+
+// The lowest byte at fault.
+pub fn first_cut(s: Sizes, samples: &[i16], cuts: &[u8]) -> Fault
+    requires { ⌜ Tabled (blockOf s (now samples) (now cuts)) ⌝ }
+    ensures { λ r. ⌜ CutAnswer (blockOf s (now (samples .entry)) (now (cuts .entry))) r ⌝ }
+{
+    let n = counts::point_count(s);
+    let mut q = numbers::locate(s, 0);
+    let mut p = 0;
+    while p < n {
+        let found = line_fault(s, samples, cuts, q);
+        match found {
+            Fault::Fine => {}
+            Fault::Gap(o) => return Fault::Gap(o),
+            Fault::Stray(o) => return Fault::Stray(o),
+        }
+        let kind = q.kind;
+        p += walk::line_length(s, kind);
+        if p < n {
+            q = walk::next_line(s, q);
+        }
+    }
+    Fault::Fine
+}

@@ -1,0 +1,96 @@
+// Rim points whose sample is above zero. Of a line inside its layer and its block only the two ends
+// are on the rim.
+use crate::signs;
+use crate::walk;
+use lattice::Site;
+use lattice::Sizes;
+use lattice::counts;
+use lattice::edges;
+use lattice::numbers;
+use lattice::rim;
+ghost use mathlib.Core.Path.{_≡_};
+ghost use mathlib.Core.Bool.{_||_};
+ghost use mathlib.Core.List.{List};
+ghost use Prim.Native.Nat.{ℕ, _-_, _≤_};
+ghost use lib.ListN.{length};
+ghost use Rattle.basics.specs.Lists.{firstFrom};
+ghost use Rattle.lattice.specs.Axis.{along-x, along-y, along-z};
+ghost use Rattle.lattice.specs.Counts.{Sized, grid, points};
+ghost use Rattle.lattice.specs.Rim.{outermost};
+ghost use Rattle.moving.specs.Block.{blockOf};
+ghost use Rattle.filling.specs.Check.{firstRim};
+ghost use Rattle.checks.specs.inner.Lines.{Line};
+ghost use Rattle.checks.specs.inner.Outside.{plusAt, outside};
+
+// All points of a line are on the rim.
+fn is_outer(s: Sizes, q: Site) -> bool
+    requires { ⌜ Sized s ⌝ }
+    requires { ⌜ Line s (q .own) q ⌝ }
+    ensures { λ r. ⌜ r ≡ (outermost (grid s (q .kind) along-y) (q .y) || outermost (grid s (q .kind) along-z) (q .z)) ⌝ }
+{
+    let kind = q.kind;
+    let odd = edges::odd_of(kind);
+    if rim::is_outermost(s.ny + 1 - odd, q.y) {
+        return true;
+    }
+    rim::is_outermost(s.nz + 1 - odd, q.z)
+}
+
+// The first point above zero from one point on and before another.
+fn first_plus(samples: &[i16], from: usize, to: usize) -> usize
+    requires { ⌜ (from ≤ to) × (to ≤ length (now samples)) × (length (now samples) ≤ 1000000) ⌝ }
+    ensures { λ r. ⌜ r ≡ firstFrom (plusAt (now (samples .entry))) (to - from) from ⌝ }
+{
+    for p in from..to {
+        if signs::is_plus(samples[p]) {
+            return p;
+        }
+    }
+    to
+}
+
+// The first point of a line that is on the rim and above zero, or the number after the line.
+fn line_rim(s: Sizes, samples: &[i16], q: Site) -> usize
+    requires { ⌜ Sized s ⌝ }
+    requires { ⌜ length (now samples) ≡ points s ⌝ }
+    requires { ⌜ Line s (q .own) q ⌝ }
+    ensures { λ r. ⌜ r ≡ firstFrom (outside s (now (samples .entry))) (grid s (q .kind) along-x) (q .own) ⌝ }
+{
+    let kind = q.kind;
+    let own = q.own;
+    let end = own + walk::line_length(s, kind);
+    if is_outer(s, q) {
+        return first_plus(samples, own, end);
+    }
+    if signs::is_plus(samples[own]) {
+        return own;
+    }
+    let last = end - 1;
+    if signs::is_plus(samples[last]) {
+        return last;
+    }
+    end
+}
+
+// The lowest rim point above zero, or N.
+pub fn first_rim(s: Sizes, samples: &[i16]) -> usize
+    requires { ⌜ Sized s ⌝ }
+    requires { ⌜ length (now samples) ≡ points s ⌝ }
+    ensures { λ r. ⌜ ((cuts : List ℕ) → r ≡ firstRim (blockOf s (now (samples .entry)) cuts)) ⌝ }
+{
+    let n = counts::point_count(s);
+    let mut q = numbers::locate(s, 0);
+    let mut p = 0;
+    while p < n {
+        let found = line_rim(s, samples, q);
+        let kind = q.kind;
+        p += walk::line_length(s, kind);
+        if found < p {
+            return found;
+        }
+        if p < n {
+            q = walk::next_line(s, q);
+        }
+    }
+    n
+}

@@ -1,0 +1,62 @@
+-- Demand 3: of all rows of a filling together, each face belongs to exactly two rows, which wind it opposite ways, or to exactly one,
+-- and then its three corners lie on the skin; and each row's volume, with points moved, is above zero.
+-- Assumes that cut bytes are bytes, and nothing else.
+use Prim.Native.Nat.{ℕ, _≤_, _<_}
+use native.Mathlib.Omega.{arith}
+use mathlib.Core.Path.{_≡_, refl, sym, subst}
+use mathlib.Core.Logic.{_⊎_, inl, inr}
+use mathlib.Core.List.{List}
+use Rattle.lattice.specs.Counts.{points}
+use Rattle.moving.specs.declared.Label.the-variants.{Zero}
+use Rattle.moving.specs.Block.{Block}
+use Rattle.moving.specs.Moving.{stateOf}
+use Rattle.moving.proofs.Moved.{zero-label}
+use Rattle.stencil.specs.Tetrahedron.{Vertex}
+use Rattle.stencil.specs.Row.{Row, Third, faceAt, faceOf}
+use Rattle.geometry.specs.Place.{placeOf}
+use Rattle.filling.specs.Mesh.{meshOf}
+use Rattle.filling.specs.Fill.{fill}
+use Rattle.filling.specs.Demand.{nthRow, rowsRead, FaceFits, shared, boundary, Conforms, OnSkin, a-cut, a-moved-point, a-zero-sample}
+use Rattle.filling.proofs.Accepted.{Accepted, passed-all, filled-accepted}
+use Rattle.filling.proofs.Written.{rows-read, state-written}
+use Rattle.faces.proofs.Faces.{faces}
+use Rattle.faces.proofs.RowIds.{RowId, a-point, an-edge, face-ids}
+use Rattle.conformity.proofs.Warp.{Bytes}
+use Rattle.conformity.proofs.Bridge.{finalLabel, finalPlace, edge-byte, sound, no-rim}
+use Rattle.conformity.proofs.Rows.{mesh-is, rows-positive}
+
+-- what the corners of a boundary face lie on, in other words
+widened : {rows : List (Row ℕ)} {S S′ : ℕ → Type 0} {i : ℕ} {v : Vertex}
+    → ((t : Third) → S (faceAt (faceOf (nthRow rows i) v) t) → S′ (faceAt (faceOf (nthRow rows i) v) t))
+    → FaceFits rows S i v → FaceFits rows S′ i v
+widened h (shared j w l n o u) = shared j w l n o u
+widened h (boundary u k) = boundary u (λ t. h t (k t))
+
+-- an id in a row that is a cut's or has the label zero lies on the skin
+on-skin : (b : Block) → Accepted b → (id : ℕ) → RowId (b .sizes) (finalLabel b) id
+    → (points (b .sizes) ≤ id) ⊎ ((id < points (b .sizes)) × (finalLabel b id ≡ Zero)) → OnSkin b id
+on-skin b h id r (inr z) = elim (zero-label b id (z .1)) [ inl n ↦ a-moved-point (z .0) n | inr e ↦ a-zero-sample (z .0) e ]
+on-skin b h id (a-point l n) (inl c) = absurd (omega arith)
+on-skin b h id (an-edge p d q l u to o e) (inl c) = a-cut p d q l u to (λ z. omega (arith, edge-byte b h p d q l u to o)) e
+
+pub accepted-conforms : (b : Block) → Bytes b → Accepted b → Conforms (meshOf b) (placeOf (b .sizes) (b .cuts) (stateOf b)) (OnSkin b)
+accepted-conforms b bytes h =
+    subst (λ (rows : List (Row ℕ)). Conforms rows (finalPlace b) (OnSkin b)) (sym (mesh-is b (sound b h bytes)))
+    (record {
+      faces = λ i l v.
+          widened (λ t. on-skin b h _ (face-ids (b .sizes) (finalLabel b) i l v t))
+          (faces (b .sizes) (finalLabel b) (no-rim b h) i l v);
+      volumes = rows-positive b (sound b h bytes);
+    })
+
+pub demand-3 : (b : Block) (state rows : List ℕ) → Bytes b → fill b state rows .answer .number ≡ 0
+    → Conforms (meshOf b) (placeOf (b .sizes) (b .cuts) (stateOf b)) (OnSkin b)
+demand-3 b state rows bytes e = accepted-conforms b bytes (filled-accepted b state rows e)
+
+-- the same of the rows as filling leaves them in the row table, T of them, with the points placed by the state table that it leaves
+pub demand-3-written : (b : Block) (state rows : List ℕ) → Bytes b → fill b state rows .answer .number ≡ 0
+    → Conforms (rowsRead (fill b state rows .rows) (fill b state rows .answer .rows))
+    (placeOf (b .sizes) (b .cuts) (fill b state rows .state)) (OnSkin b)
+demand-3-written b state rows bytes e =
+    let p = passed-all b state rows 0 (inl refl) e in
+    rw (rows-read b state rows e, state-written b state rows (p .accepted) (p .state-long)) (demand-3 b state rows bytes e)

@@ -1,0 +1,66 @@
+-- The head, then the file. Assumes nothing.
+use mathlib.Core.Path.{sym, _∙_}
+use lib.Seq.{length-take-le}
+use borrow.Author.Tests.{not-true, not-false}
+use Rattle.replay.proofs.Reading.{it-fits, no-file, file-decides}
+use borrow.Author.Needs.{needs}
+use Rattle.replay.proofs.files.agrees.Statement.{statement}
+use Rattle.replay.proofs.files.agrees.Tie as tie
+
+filed-of-requires : tie.Need-filed-of-requires
+filed-of-requires c κs = search needs
+
+is-fitting-requires : tie.Need-is-fitting-requires
+is-fitting-requires c κs = search needs
+
+returns : tie.Need-returns
+returns c = no-file _ _ _ _ _ (c .before .before .filed-of .ensures .0) (c .before .is-fitting .ensures) (not-true _ (c .if1 .taken))
+
+slice-relend-prefix-is-agreed : tie.Need-slice-relend-prefix-is-agreed
+slice-relend-prefix-is-agreed c = (it-fits _ _ _ _ (sym (c .before .is-fitting .ensures) ∙ not-false _ (c .if1 .left))) .sample-room
+
+slice-aggregate-is-agreed : tie.Need-slice-aggregate-is-agreed
+slice-aggregate-is-agreed c =
+    let w = it-fits _ _ _ _ (sym (c .before .before .is-fitting .ensures) ∙ not-false _ (c .before .if1 .left)) in
+    sym (length-take-le _ _ (w .sample-room))
+
+slice-relend-prefix-is-agreed-2 : tie.Need-slice-relend-prefix-is-agreed-2
+slice-relend-prefix-is-agreed-2 c = (it-fits _ _ _ _ (sym (c .before .before .is-fitting .ensures) ∙ not-false _ (c .before .if1 .left))) .cut-room
+
+slice-aggregate-is-agreed-2 : tie.Need-slice-aggregate-is-agreed-2
+slice-aggregate-is-agreed-2 c =
+    let w = it-fits _ _ _ _ (sym (c .before .before .before .is-fitting .ensures) ∙ not-false _ (c .before .before .if1 .left)) in
+    sym (length-take-le _ _ (w .cut-room))
+
+is-agreed-requires : tie.Need-is-agreed-requires
+is-agreed-requires c κs =
+    let w = it-fits _ _ _ _ (sym (c .before .before .before .is-fitting .ensures) ∙ not-false _ (c .before .before .if1 .left)) in
+    (w .whole, length-take-le _ _ (w .sample-room), length-take-le _ _ (w .cut-room))
+
+same-length : tie.Need-same-length
+same-length c = search needs
+
+same-length-2 : tie.Need-same-length-2
+same-length-2 c = search needs
+
+returns-2 : tie.Need-returns-2
+returns-2 c =
+    let f = c .before .before .before .before .before .before .before in
+    file-decides _ _ _ _ _ (f .before .filed-of .ensures .0) (f .is-fitting .ensures)
+    (not-false _ (c .before .before .before .before .before .before .if1 .left)) (c .before .before .before .is-agreed .ensures)
+
+pub agrees-spec : {M : Type 1} → statement M
+agrees-spec =
+    tie.close
+    (tie.spec
+    filed-of-requires
+    is-fitting-requires
+    returns
+    slice-relend-prefix-is-agreed
+    slice-aggregate-is-agreed
+    slice-relend-prefix-is-agreed-2
+    slice-aggregate-is-agreed-2
+    is-agreed-requires
+    same-length
+    same-length-2
+    returns-2)
