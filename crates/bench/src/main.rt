@@ -1,8 +1,8 @@
 // The bench program: reads one block file from standard input, fills its block and prints the
 // counts, or why it is refused.
+use fill_file::Summary;
 use libc::STDIN_FILENO;
 use libc::STDOUT_FILENO;
-use fill_file::Summary;
 
 fn print_line(word: &[u8], n: u64) {
     io::write_all(STDOUT_FILENO, word);

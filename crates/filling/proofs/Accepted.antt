@@ -5,7 +5,7 @@ use mathlib.Core.Path.{_≡_, refl, _∙_}
 use mathlib.Core.Logic.{_⊎_, inl, inr}
 use mathlib.Core.Bool.{Bool, true, false, not}
 use mathlib.Core.List.{List}
-use lib.ListN.{length}
+use lib.ListN.{length, getD}
 use lib.Dec.{T, ltb, eqb, T-not}
 use borrow.Author.Tests.{ltb-false, ltb-true, le-ltb, eqb-true, eq-eqb, not-false}
 use Rattle.basics.specs.Choice.{if_then_else_}
@@ -13,23 +13,17 @@ use Rattle.basics.proofs.Test.{eqb-of, lt-or}
 use Rattle.basics.proofs.Search.{lowest-passes, lowest-none, none-lowest}
 use Rattle.lattice.specs.Counts.{sizesFit, points}
 use Rattle.lattice.proofs.Sized.{fits-sized, sized-fits}
-use Rattle.moving.specs.Block.{Block, cutByte, Tabled}
-use Rattle.filling.specs.Check.{rimFault, crosses, cutFault, firstRim, firstCut}
+use Rattle.lattice.specs.declared.Sizes.{Sizes}
+use Rattle.moving.specs.declared.Label.{Label}
+use Rattle.moving.specs.Label.{labels}
+use Rattle.moving.specs.Block.{Block}
+use Rattle.filling.specs.Check.{rimFault, crosses, cutFault, firstRim, firstCut, Accepted}
 use Rattle.filling.specs.Fill.{Outcome, refused, written, fill}
 
--- a block that filling accepts
-pub record Accepted (b : Block) : Type 0 where
-  pub tabled : Tabled b
-  pub rim-fine : (p : ℕ) → p < points (b .sizes) → rimFault b p ≡ false
-  pub cuts-fine : (o : ℕ) → o < 7 * points (b .sizes) → cutFault b o ≡ 0
-
-pub accepted-tabled : (b : Block) → Accepted b → Tabled b
-accepted-tabled b h = h .tabled
-
 -- a cut byte's fault is 0, 6 or 7
-fault-le : (b : Block) (o : ℕ) → cutFault b o ≤ 7
+fault-le : (s : Sizes) (label : ℕ → Label) (cuts : List ℕ) (o : ℕ) → cutFault s label cuts o ≤ 7
 unfolding cutFault
-fault-le b o = go (crosses b (o / 7) (o % 7)) (eqb (cutByte b o) 0)
+fault-le s label cuts o = go (crosses s label (o / 7) (o % 7)) (eqb (getD cuts o 0) 0)
   where
     go : (c z : Bool) → (if c then (if z then 6 else 0) else (if z then 0 else 7)) ≤ 7
     go true true = omega arith
@@ -37,10 +31,26 @@ fault-le b o = go (crosses b (o / 7) (o % 7)) (eqb (cutByte b o) 0)
     go false true = omega arith
     go false false = omega arith
 
+-- a block's labels, and its first faults
+abbrev labelIn : Block → ℕ → Label
+labelIn b = labels (b .samples)
+
+abbrev faultIn : Block → ℕ → ℕ
+faultIn b = cutFault (b .sizes) (labelIn b) (b .cuts)
+
+abbrev rimOf : Block → ℕ
+rimOf b = firstRim (b .sizes) (labelIn b)
+
+abbrev cutOf : Block → ℕ
+cutOf b = firstCut (b .sizes) (labelIn b) (b .cuts)
+
 faulty : Block → ℕ → Bool
-faulty b o = not (eqb (cutFault b o) 0)
+faulty b o = not (eqb (faultIn b o) 0)
 
 module _ (b : Block) (state rows : List ℕ) where
+  abbrev n : ℕ
+  n = points (b .sizes)
+
   -- an answer that is not this refusal's number comes from what is tested after it
   passed : (t : Bool) (n at : ℕ) (more : Outcome) (m : ℕ) → (t ≡ true → n ≡ m → ⊥)
       → (if t then refused b state rows n at else more) .answer .number ≡ m
@@ -58,11 +68,13 @@ module _ (b : Block) (state rows : List ℕ) where
   unfolding fill faulty
   passed-all m k e =
       let s1 = passed (not (sizesFit (b .sizes))) 1 0 _ m (λ t. not-early 1 (omega arith) (omega arith)) e in
-      let s2 = passed (not (eqb (length (b .samples)) (points (b .sizes)))) 2 0 _ m (λ t. not-early 2 (omega arith) (omega arith)) (s1 .2) in
-      let s3 = passed (not (eqb (length (b .cuts)) (7 * points (b .sizes)))) 3 0 _ m (λ t. not-early 3 (omega arith) (omega arith)) (s2 .2) in
-      let s4 = passed (not (eqb (length state) (points (b .sizes)))) 4 0 _ m (λ t. not-early 4 (omega arith) (omega arith)) (s3 .2) in
-      let s5 = passed (ltb (firstRim b) (points (b .sizes))) 5 (firstRim b) _ m (λ t. not-early 5 (omega arith) (omega arith)) (s4 .2) in
-      let s6 = passed (ltb (firstCut b) (7 * points (b .sizes))) (cutFault b (firstCut b)) (firstCut b) _ m not-cut (s5 .2) in
+      let s2 = passed (not (eqb (length (b .samples)) n)) 2 0 _ m (λ t. not-early 2 (omega arith) (omega arith)) (s1 .2) in
+      let s3 = passed (not (eqb (length (b .cuts)) (7 * n))) 3 0 _ m (λ t. not-early 3 (omega arith) (omega arith)) (s2 .2) in
+      let s4 = passed (not (eqb (length state) n)) 4 0 _ m (λ t. not-early 4 (omega arith) (omega arith)) (s3 .2) in
+      let s5 = passed (ltb (rimOf b) n) 5 (rimOf b) _ m (λ t. not-early 5 (omega arith) (omega arith)) (s4 .2) in
+      let s6 = passed (ltb (cutOf b) (7 * n)) (faultIn b (cutOf b)) (cutOf b) _ m not-cut (s5 .2) in
+      let no-rim = lowest-none (rimFault (b .sizes) (labelIn b)) n (ltb-false _ _ (s5 .0)) in
+      let no-cut = lowest-none (faulty b) (7 * n) (ltb-false _ _ (s6 .0)) in
       record {
         accepted = record {
           tabled = record {
@@ -70,8 +82,8 @@ module _ (b : Block) (state rows : List ℕ) where
             samples-long = eqb-true _ _ (not-false _ (s2 .0));
             cuts-long = eqb-true _ _ (not-false _ (s3 .0));
           };
-          rim-fine = lowest-none (rimFault b) (points (b .sizes)) (ltb-false _ _ (s5 .0));
-          cuts-fine = λ o h. eqb-true _ _ (not-false _ (lowest-none (faulty b) (7 * points (b .sizes)) (ltb-false _ _ (s6 .0)) o h));
+          rim-fine = no-rim;
+          cuts-fine = λ o h. eqb-true _ _ (not-false _ (no-cut o h));
         };
         state-long = eqb-true _ _ (not-false _ (s4 .0));
         is = s1 .1 ∙ s2 .1 ∙ s3 .1 ∙ s4 .1 ∙ s5 .1 ∙ s6 .1;
@@ -83,10 +95,11 @@ module _ (b : Block) (state rows : List ℕ) where
       some : (n : ℕ) → T (not (eqb n 0)) → 0 < n
       some n t = elim (lt-or 0 n) [ inl l ↦ l | inr l ↦ absurd (T-not (eqb n 0) t (eqb-of n 0 (omega arith))) ]
 
-      not-cut : ltb (firstCut b) (7 * points (b .sizes)) ≡ true → cutFault b (firstCut b) ≡ m → ⊥
+      not-cut : ltb (cutOf b) (7 * n) ≡ true → faultIn b (cutOf b) ≡ m → ⊥
       not-cut t f =
-          not-early (cutFault b (firstCut b))
-          (some (cutFault b (firstCut b)) (lowest-passes (faulty b) (7 * points (b .sizes)) (ltb-true _ _ t))) (omega (arith, fault-le b (firstCut b))) f
+          let fault = faultIn b (cutOf b) in
+          let small = fault-le (b .sizes) (labelIn b) (b .cuts) (cutOf b) in
+          not-early fault (some fault (lowest-passes (faulty b) (7 * n) (ltb-true _ _ t))) (omega (arith, small)) f
 
   -- and the other way round: a block that passes is filled
   pub accepted-fills : Accepted b → length state ≡ points (b .sizes) → fill b state rows ≡ written b state rows
@@ -97,11 +110,11 @@ module _ (b : Block) (state rows : List ℕ) where
         eq-eqb _ _ (h .tabled .samples-long),
         eq-eqb _ _ (h .tabled .cuts-long),
         eq-eqb _ _ l,
-        le-ltb (firstRim b) (points (b .sizes)) (omega (arith, none-lowest (rimFault b) (points (b .sizes)) (h .rim-fine))),
-        le-ltb (firstCut b) (7 * points (b .sizes)) (omega (arith, none-lowest (faulty b) (7 * points (b .sizes)) fine)),
+        le-ltb (rimOf b) n (omega (arith, none-lowest (rimFault (b .sizes) (labelIn b)) n (h .rim-fine))),
+        le-ltb (cutOf b) (7 * n) (omega (arith, none-lowest (faulty b) (7 * n) fine)),
       )
     where
-      fine : (o : ℕ) → o < 7 * points (b .sizes) → faulty b o ≡ false
+      fine : (o : ℕ) → o < 7 * n → faulty b o ≡ false
       fine o u = rw (h .cuts-fine o u) refl
 
 -- an answer 0 or 10 says that the block is accepted

@@ -1,39 +1,57 @@
 -- Document 01, "The block" and "Calls and refusals": what a block must be like to be filled.
-use Prim.Native.Nat.{ℕ, _+_, _*_, _/_, _%_}
-use mathlib.Core.Bool.{Bool, true, false, not, _&&_}
+--     rimFault, firstRim         refusal 5
+--     crosses, cutFault, firstCut   refusals 6 and 7
+--     Accepted                   a block that passes
+use Prim.Native.Nat.{ℕ, _*_, _/_, _%_, _<_}
+use mathlib.Core.Path.{_≡_}
+use mathlib.Core.Bool.{Bool, false, not, _&&_}
+use mathlib.Core.List.{List}
+use lib.ListN.{getD}
 use lib.Dec.{eqb}
 use Rattle.basics.specs.Choice.{if_then_else_}
 use Rattle.basics.specs.Lists.{lowest}
+use Rattle.lattice.specs.declared.Sizes.{Sizes}
 use Rattle.lattice.specs.declared.Near.{Near}
 use Rattle.lattice.specs.declared.Near.the-variants.{At, Nothing}
 use Rattle.lattice.specs.Counts.{points}
+use Rattle.lattice.specs.Direction.{asStart}
 use Rattle.lattice.specs.Edge.{neighbour}
 use Rattle.lattice.specs.Rim.{rim}
-use Rattle.moving.specs.Block.{Block, cutByte}
-use Rattle.moving.specs.Label.{isPlus, opposed}
-use Rattle.moving.specs.Moving.{labelBefore}
+use Rattle.moving.specs.declared.Label.{Label}
+use Rattle.moving.specs.Label.{labels, isPlus, opposed}
+use Rattle.moving.specs.Block.{Block, Tabled}
 
--- "a rim point's sample is above zero"
-unfoldable pub rimFault : Block → ℕ → Bool
-rimFault b p = rim (b .sizes) p && isPlus (labelBefore b p)
+module _ (s : Sizes) (label : ℕ → Label) where
+  -- "a rim point's sample is above zero"
+  unfoldable pub rimFault : ℕ → Bool
+  rimFault p = rim s p && isPlus (label p)
 
--- the edge from p in direction d crosses the skin: "the edge exists and one end's sample is above zero and the other's below"
-unfoldable pub crossesTo : Block → ℕ → Near → Bool
-crossesTo b p Nothing = false
-crossesTo b p (At q) = opposed (labelBefore b p) (labelBefore b q)
+  -- the lowest rim point that is at fault, or N
+  abbrev pub firstRim : ℕ
+  firstRim = lowest rimFault (points s)
 
-abbrev pub crosses : Block → ℕ → ℕ → Bool
-crosses b p d = crossesTo b p (neighbour (b .sizes) p (d + 1))
+  -- the edge from p to this neighbour crosses the skin: "one end's sample is above zero and the other's below"
+  unfoldable pub crossesTo : ℕ → Near → Bool
+  crossesTo p Nothing = false
+  crossesTo p (At q) = opposed (label p) (label q)
 
--- "A byte must be non-zero exactly where" its edge crosses: 6 for a gap, 7 for a stray byte, 0 if all is well
-unfoldable pub cutFault : Block → ℕ → ℕ
-cutFault b o =
-    if crosses b (o / 7) (o % 7) then (if eqb (cutByte b o) 0 then 6 else 0)
-    else (if eqb (cutByte b o) 0 then 0 else 7)
+  -- so does the edge from p in direction d, if there is one
+  abbrev pub crosses : ℕ → ℕ → Bool
+  crosses p d = crossesTo p (neighbour s p (asStart d))
 
--- the lowest rim point that is at fault, or N; the lowest byte that is, or 7N
-abbrev pub firstRim : Block → ℕ
-firstRim b = lowest (rimFault b) (points (b .sizes))
+  module _ (cuts : List ℕ) where
+    -- "A byte must be non-zero exactly where" its edge crosses: 6 for a gap, 7 for a stray byte, 0 if all is well
+    unfoldable pub cutFault : ℕ → ℕ
+    cutFault o =
+        if crosses (o / 7) (o % 7) then (if eqb (getD cuts o 0) 0 then 6 else 0)
+        else (if eqb (getD cuts o 0) 0 then 0 else 7)
 
-abbrev pub firstCut : Block → ℕ
-firstCut b = lowest (λ o. not (eqb (cutFault b o) 0)) (7 * points (b .sizes))
+    -- the lowest byte that is at fault, or 7N
+    abbrev pub firstCut : ℕ
+    firstCut = lowest (λ o. not (eqb (cutFault o) 0)) (7 * points s)
+
+-- a block that filling accepts
+pub record Accepted (b : Block) : Type 0 where
+  pub tabled : Tabled b
+  pub rim-fine : (p : ℕ) → p < points (b .sizes) → rimFault (b .sizes) (labels (b .samples)) p ≡ false
+  pub cuts-fine : (o : ℕ) → o < 7 * points (b .sizes) → cutFault (b .sizes) (labels (b .samples)) (b .cuts) o ≡ 0

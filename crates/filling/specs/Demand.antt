@@ -5,13 +5,16 @@ use mathlib.Core.Path.{_≡_}
 use mathlib.Core.Logic.{_⊎_}
 use mathlib.Core.List.{List, map}
 use lib.ListN.{length, getD}
-use lib.IntN.{ℤ, pos}
+use lib.IntN.{pos}
+use lib.Dec.{T}
 use lib.Signed.{_<ℤ_}
 use Rattle.basics.specs.Lists.{below}
 use Rattle.lattice.specs.declared.Near.the-variants.{At}
 use Rattle.lattice.specs.Counts.{points}
+use Rattle.lattice.specs.Direction.{asStart}
 use Rattle.lattice.specs.Edge.{neighbour, byteAt}
-use Rattle.moving.specs.Block.{Block, sample, cutByte}
+use Rattle.moving.specs.declared.Label.the-variants.{Zero}
+use Rattle.moving.specs.Reading.{Reading, isMove}
 use Rattle.moving.specs.Moving.{stateOf}
 use Rattle.stencil.specs.Tetrahedron.{Vertex}
 use Rattle.stencil.specs.Row.{Row, row, Face, Third, faceOf, faceAt, Opposite, Holds}
@@ -47,11 +50,12 @@ pub record Conforms (rows : List (Row ℕ)) (place : ℕ → Place) (Skin : ℕ 
   pub faces : (i : ℕ) → i < length rows → (v : Vertex) → FaceFits rows Skin i v
   pub volumes : (i : ℕ) → i < length rows → pos 0 <ℤ rowVolume place (nthRow rows i)
 
--- the skin (document 01's word for the isosurface): a cut point, a point that the rules move in this block, or a point whose sample is zero
-pub data OnSkin (b : Block) (id : ℕ) : Type 0 where
+-- the skin (document 01's word for the isosurface): a cut point, a point that the rules move, or a point whose label is zero from the
+-- start, that is, whose sample is zero
+pub data OnSkin (m : Reading) (id : ℕ) : Type 0 where
   -- "A cut point is the cut of an edge": the edge from p in direction d exists, its byte is not zero, and this is its id
-  a-cut : (p d q : ℕ) → p < points (b .sizes) → d < 7 → neighbour (b .sizes) p (d + 1) ≡ At q
-      → (cutByte b (byteAt p d) ≡ 0 → ⊥) → id ≡ cutId (b .sizes) p d → OnSkin b id
+  a-cut : (p d q : ℕ) → p < points (m .sizes) → d < 7 → neighbour (m .sizes) p (asStart d) ≡ At q
+      → (getD (m .cuts) (byteAt p d) 0 ≡ 0 → ⊥) → id ≡ cutId (m .sizes) p d → OnSkin m id
   -- "a moved point is one that the rules above move in this block, and is not read off the state table"
-  a-moved-point : id < points (b .sizes) → (getD (stateOf b) id 0 ≡ 0 → ⊥) → OnSkin b id
-  a-zero-sample : id < points (b .sizes) → sample b id ≡ pos 0 → OnSkin b id
+  a-moved-point : id < points (m .sizes) → T (isMove (getD (stateOf m) id 0)) → OnSkin m id
+  a-zero-label : id < points (m .sizes) → m .label id ≡ Zero → OnSkin m id

@@ -2,15 +2,15 @@
 use Prim.Native.Nat.{ℕ, _+_, _*_}
 use mathlib.Core.Bool.{Bool, not}
 use mathlib.Core.List.{List, _++_}
-use lib.IntN.{ℤ}
 use lib.ListN.{length, getD, drop}
 use lib.Dec.{ltb, leb, eqb}
 use Rattle.basics.specs.Choice.{if_then_else_}
 use Rattle.basics.specs.Lists.{count}
-use Rattle.lattice.specs.declared.Sizes.{Sizes}
 use Rattle.lattice.specs.Counts.{sizesFit, points}
-use Rattle.moving.specs.Block.{Block}
+use Rattle.moving.specs.Label.{labels}
+use Rattle.moving.specs.Reading.{isMove}
 use Rattle.moving.specs.Moving.{stateOf}
+use Rattle.moving.specs.Block.{Block, readingOf}
 use Rattle.filling.specs.declared.Filled.{Filled}
 use Rattle.filling.specs.Mesh.{rowsWith, table}
 use Rattle.filling.specs.Check.{cutFault, firstRim, firstCut}
@@ -21,9 +21,9 @@ pub record Outcome : Type 0 where
   pub state : List ℕ
   pub rows : List ℕ
 
--- "M, the non-zero state bytes"
+-- "M, the non-zero state bytes" of a filled table, which are codes: how many points moved
 unfoldable pub movedCount : List ℕ → ℕ
-movedCount state = count (λ p. not (eqb (getD state p 0) 0)) (length state)
+movedCount state = count (λ p. isMove (getD state p 0)) (length state)
 
 -- the rows written over the first entries of a table; "entries beyond 4T stay untouched"
 unfoldable pub overwritten : List ℕ → List ℕ → List ℕ
@@ -38,8 +38,8 @@ module _ (b : Block) (state rows : List ℕ) where
   -- a longer table would have had"
   unfoldable pub written : Outcome
   written =
-      let codes = stateOf b in
-      let mesh = rowsWith b codes in
+      let codes = stateOf (readingOf b) in
+      let mesh = rowsWith (readingOf b) codes in
       let fits = leb (4 * length mesh) (length rows) in
       record {
         answer = record { number = if fits then 0 else 10; rows = length mesh; moved = movedCount codes; place = 0 };
@@ -50,10 +50,14 @@ module _ (b : Block) (state rows : List ℕ) where
   -- "1 to 5, then the lowest byte that is a 6 or a 7 (its offset is the place), then 10"
   unfoldable pub fill : Outcome
   fill =
-      if not (sizesFit (b .sizes)) then refused 1 0
-      else if not (eqb (length (b .samples)) (points (b .sizes))) then refused 2 0
-      else if not (eqb (length (b .cuts)) (7 * points (b .sizes))) then refused 3 0
-      else if not (eqb (length state) (points (b .sizes))) then refused 4 0
-      else if ltb (firstRim b) (points (b .sizes)) then refused 5 (firstRim b)
-      else if ltb (firstCut b) (7 * points (b .sizes)) then refused (cutFault b (firstCut b)) (firstCut b)
+      let s = b .sizes in
+      let label = labels (b .samples) in
+      let rim = firstRim s label in
+      let cut = firstCut s label (b .cuts) in
+      if not (sizesFit s) then refused 1 0
+      else if not (eqb (length (b .samples)) (points s)) then refused 2 0
+      else if not (eqb (length (b .cuts)) (7 * points s)) then refused 3 0
+      else if not (eqb (length state) (points s)) then refused 4 0
+      else if ltb rim (points s) then refused 5 rim
+      else if ltb cut (7 * points s) then refused (cutFault s label (b .cuts) cut) cut
       else written

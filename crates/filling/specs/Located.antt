@@ -11,36 +11,41 @@ use Rattle.lattice.specs.declared.Near.{Near}
 use Rattle.lattice.specs.declared.Near.the-variants.{At, Nothing}
 use Rattle.lattice.specs.Axis.{along-x, along-y, along-z}
 use Rattle.lattice.specs.Counts.{sizesFit, points}
+use Rattle.lattice.specs.Direction.{asStart}
 use Rattle.lattice.specs.Edge.{neighbour, byteAt, edgeByte}
-use Rattle.moving.specs.Violation.{violates}
+use Rattle.moving.specs.Violation.{rule1, violates}
+use Rattle.moving.specs.Reading.{isMove, saysZero}
 use Rattle.geometry.specs.Place.{Place, placeOf}
 use Rattle.filling.specs.declared.Placed.{Placed}
+
+-- an answer with a place: no coordinate of a place is below 0
+abbrev pub placed : Place → Placed
+placed p = record { number = 0; x = natAbs (p along-x); y = natAbs (p along-y); z = natAbs (p along-z) }
+
+-- "a refusal's place is (0,0,0)"
+abbrev pub unplaced : ℕ → Placed
+unplaced n = record { number = n; x = 0; y = 0; z = 0 }
 
 module _ (s : Sizes) (cuts state : List ℕ) where
   -- "9: the state byte is above 14, or its edge does not exist, has byte 0 or does not violate the point"
   unfoldable pub reaches : ℕ → ℕ → Near → Bool
   reaches p c Nothing = false
-  reaches p c (At q) = violates c (getD cuts (edgeByte p c q) 0)
+  reaches p c (At q) = violates rule1 c (getD cuts (edgeByte p c q) 0)
 
   unfoldable pub believable : ℕ → Bool
   believable p =
       let c = getD state p 0 in
-      if eqb c 0 then true else leb c 14 && reaches p c (neighbour s p c)
+      if eqb c 0 then true else isMove c && reaches p c (neighbour s p c)
 
   -- "8: .. its edge does not exist, has byte 0, or has an end with a non-zero state byte"
   unfoldable pub standsTo : ℕ → ℕ → Near → Bool
   standsTo p d Nothing = false
-  standsTo p d (At q) = not (eqb (getD cuts (byteAt p d) 0) 0) && (eqb (getD state p 0) 0 && eqb (getD state q 0) 0)
+  standsTo p d (At q) =
+      not (eqb (getD cuts (byteAt p d) 0) 0)
+      && (not (saysZero (getD state p 0)) && not (saysZero (getD state q 0)))
 
   unfoldable pub stands : ℕ → Bool
-  stands o = standsTo (o / 7) (o % 7) (neighbour s (o / 7) (o % 7 + 1))
-
-  -- a refusal's place is (0,0,0)
-  abbrev pub unplaced : ℕ → Placed
-  unplaced n = record { number = n; x = 0; y = 0; z = 0 }
-
-  abbrev pub placed : Place → Placed
-  placed p = record { number = 0; x = natAbs (p along-x); y = natAbs (p along-y); z = natAbs (p along-z) }
+  stands o = standsTo (o / 7) (o % 7) (neighbour s (o / 7) (asStart (o % 7)))
 
   -- the number of the refusal of an id among well-sized tables, or 0
   unfoldable pub idFault : ℕ → ℕ

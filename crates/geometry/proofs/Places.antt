@@ -10,6 +10,7 @@ use Rattle.lattice.specs.Counts.{cells, points}
 use Rattle.lattice.specs.Point.{linear, cell, kindOf}
 use Rattle.lattice.specs.Direction.{directions, direction, long, isStart, directionOf, step}
 use Rattle.lattice.specs.Edge.{staysIn, farKind, farIndex, near}
+use Rattle.moving.specs.Reading.{isMove}
 use Rattle.geometry.specs.Place.{Place, latticePlace, cutPlace, movedPlace, pointPlace, placeOf}
 use Rattle.geometry.specs.Volume.{cross, dot, triple, sixVolume}
 
@@ -36,7 +37,7 @@ pub places :
     ∷ []
 unfolding
     movedTo tableOf latticePlace cutPlace movedPlace pointPlace placeOf
-    cells points linear cell kindOf directions direction long isStart directionOf step staysIn farKind farIndex near
+    cells points linear cell kindOf directions direction long isStart directionOf step staysIn farKind farIndex near isMove
 places = refl
 
 -- x, y and z turn as the differences of a positive tetrahedron do

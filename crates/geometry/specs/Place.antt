@@ -3,7 +3,7 @@ use Prim.Native.Nat.{ℕ, _+_, _*_, _-_, _/_, _%_}
 use mathlib.Core.Bool.{Bool}
 use mathlib.Core.List.{List}
 use lib.ListN.{getD}
-use lib.Dec.{ltb, eqb}
+use lib.Dec.{ltb}
 use lib.IntN.{ℤ, pos, _+ℤ_, _-ℤ_, _*ℤ_}
 use Rattle.basics.specs.Choice.{if_then_else_}
 use Rattle.lattice.specs.declared.Sizes.{Sizes}
@@ -15,6 +15,7 @@ use Rattle.lattice.specs.Counts.{points}
 use Rattle.lattice.specs.Point.{doubled, kindOf, indexOf}
 use Rattle.lattice.specs.Direction.{Step, direction, isStart, directionOf}
 use Rattle.lattice.specs.Edge.{neighbour, byteAt}
+use Rattle.moving.specs.Reading.{isMove}
 
 -- three signed coordinates
 abbrev pub Place : Type 0
@@ -40,11 +41,11 @@ unfoldable pub movedPlace : Sizes → List ℕ → ℕ → ℕ → Near → Plac
 movedPlace s cuts p c Nothing = rest s p
 movedPlace s cuts p c (At q) = cutPlace s cuts (if isStart c then p else q) (directionOf c)
 
--- a point with code 0 did not move; with any other it "moves to that cut's place"
+-- a point whose state byte is a code "moves to that cut's place"; any other stands where it was
 unfoldable pub pointPlace : Sizes → List ℕ → List ℕ → ℕ → Place
 pointPlace s cuts state p =
     let c = getD state p 0 in
-    if eqb c 0 then rest s p else movedPlace s cuts p c (neighbour s p c)
+    if isMove c then movedPlace s cuts p c (neighbour s p c) else rest s p
 
 -- the place of an id: "A row's place uses the moved points"
 unfoldable pub placeOf : Sizes → List ℕ → List ℕ → ℕ → Place

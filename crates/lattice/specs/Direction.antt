@@ -48,6 +48,12 @@ pub record Code (c : ℕ) : Type 0 where
   pub low : 1 ≤ c
   pub high : c ≤ 14
 
+abbrev pub asStart : ℕ → ℕ
+asStart d = d + 1
+
+abbrev pub asEnd : ℕ → ℕ
+asEnd d = d + 8
+
 unfoldable pub isStart : ℕ → Bool
 isStart c = leb c 7
 

@@ -1,4 +1,10 @@
 pub mod Limits
 pub mod OneCube
 pub mod Labels
+pub mod Settled
+pub mod Bytes
+pub mod Turns
+pub mod Run
+pub mod Taking
+pub mod First
 pub mod Moved

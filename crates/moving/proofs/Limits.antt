@@ -7,10 +7,10 @@ use lib.ListN.{replicate}
 use Rattle.basics.specs.Choice.{if_then_else_}
 use Rattle.basics.specs.Lists.{gather, from, below}
 use Rattle.lattice.specs.Direction.{long, isStart, directionOf}
-use Rattle.moving.specs.Violation.{limit, measured, violates}
+use Rattle.moving.specs.Violation.{rule1, limit, measured, violates}
 
 unfoldable pub violating : ℕ → List ℕ
-violating c = gather (λ t. if violates c t then t ∷ [] else []) (below 256)
+violating c = gather (λ t. if violates rule1 c t then t ∷ [] else []) (below 256)
 
 -- bytes 1 to 63 and 1 to 105 violate the start of a long and of a short edge, 193 to 255 and 151 to 255 the end
 pub limits :

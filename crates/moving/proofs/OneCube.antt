@@ -5,16 +5,18 @@ use mathlib.Core.Path.{_≡_, refl}
 use mathlib.Core.List.{List, [], _∷_, map}
 use lib.IntN.{pos, negℤ}
 use lib.ListN.{replicate, set}
-use Rattle.basics.specs.Lists.{firstFrom}
+use Rattle.basics.specs.Lists.{from, below, firstFrom}
 use Rattle.basics.specs.cases.Table.{Entry, _:=_, tableOf}
 use Rattle.lattice.specs.Counts.{cells, points}
 use Rattle.lattice.specs.Point.{linear, cell, kindOf}
 use Rattle.lattice.specs.Direction.{directions, direction, long, isStart, directionOf, step}
 use Rattle.lattice.specs.Edge.{staysIn, farKind, farIndex, near, edgeByte}
-use Rattle.moving.specs.Block.{Block, blockOf}
-use Rattle.moving.specs.Label.{labelOf, isZero}
+use Rattle.moving.specs.Label.{labelOf, labels, isZero}
 use Rattle.moving.specs.Violation.{limit, measured, violates}
-use Rattle.moving.specs.Moving.{labelAfter, live, violatedAlong, choice, codes, stateOf}
+use Rattle.moving.specs.Reading.{labelAfter, live, violatedAlong}
+use Rattle.moving.specs.Order.{moveTo, turn, moveBy}
+use Rattle.moving.specs.Moving.{choice, outset, stateAt, stateOf}
+use Rattle.moving.specs.Block.{Block, blockOf, readingOf}
 
 -- a case: the one plus point among minus ones, its cut bytes that are not 0, and the codes that must come out
 pub record Case : Type 0 where
@@ -43,8 +45,8 @@ theCases =
     ∷ case 8 (3 := 200 ∷ 11 := 100 ∷ []) (1 := 5 ∷ 8 := 11 ∷ [])
     ∷ []
 
-pub one-cube : map (λ c. stateOf (block c)) theCases ≡ map (λ c. tableOf 9 (c .moves)) theCases
+pub one-cube : map (λ c. stateOf (readingOf (block c))) theCases ≡ map (λ c. tableOf 9 (c .moves)) theCases
 unfolding
-    theCases block tableOf codes choice violatedAlong live labelAfter labelOf isZero violates limit measured firstFrom
+    theCases block tableOf stateAt outset moveBy turn moveTo from choice violatedAlong labels live labelAfter labelOf isZero violates limit measured firstFrom
     cells points linear cell kindOf directions direction long isStart directionOf step staysIn farKind farIndex near edgeByte
 one-cube = refl

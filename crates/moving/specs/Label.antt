@@ -1,7 +1,13 @@
 -- Document 01, "Moving points": "A point's label is its sample's sign: plus, minus or zero."
+--     labelOf              the label of a sample
+--     labels               the labelling of a block's points by their samples
+--     isPlus, isZero, isMinus, opposed
+use Prim.Native.Nat.{ℕ}
 use mathlib.Core.Bool.{Bool, true, false}
+use mathlib.Core.List.{List}
 use lib.Dec.{eqb}
 use lib.IntN.{ℤ, pos, negsuc}
+use lib.ListN.{getD}
 use Rattle.basics.specs.Choice.{if_then_else_}
 use Rattle.moving.specs.declared.Label.{Label}
 use Rattle.moving.specs.declared.Label.the-variants.{Minus, Zero, Plus}
@@ -9,6 +15,10 @@ use Rattle.moving.specs.declared.Label.the-variants.{Minus, Zero, Plus}
 unfoldable pub labelOf : ℤ → Label
 labelOf (negsuc n) = Minus
 labelOf (pos n) = if eqb n 0 then Zero else Plus
+
+-- "Samples are signed 16-bit, one per point"
+unfoldable pub labels : List ℤ → ℕ → Label
+labels samples p = labelOf (getD samples p (pos 0))
 
 unfoldable pub isPlus : Label → Bool
 isPlus Minus = false

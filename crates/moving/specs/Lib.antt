@@ -1,4 +1,6 @@
-pub mod Block
 pub mod Label
 pub mod Violation
+pub mod Reading
+pub mod Order
 pub mod Moving
+pub mod Block

@@ -1,50 +1,27 @@
 -- Document 01, "Moving points": which points move, and by which code.
-use Prim.Native.Nat.{ℕ, zero, suc}
-use mathlib.Core.Bool.{Bool, true, false, not, _&&_}
-use mathlib.Core.List.{List, [], _∷_, _++_}
-use lib.ListN.{getD}
-use lib.Dec.{eqb, ltb}
+use Prim.Native.Nat.{ℕ}
+use mathlib.Core.List.{List}
+use lib.ListN.{replicate}
+use lib.Dec.{ltb}
 use Rattle.basics.specs.Choice.{if_then_else_}
-use Rattle.basics.specs.Lists.{firstFrom}
-use Rattle.lattice.specs.declared.Near.{Near}
-use Rattle.lattice.specs.declared.Near.the-variants.{At, Nothing}
+use Rattle.basics.specs.Lists.{below, firstFrom}
 use Rattle.lattice.specs.Counts.{points}
-use Rattle.lattice.specs.Edge.{neighbour, edgeByte}
-use Rattle.moving.specs.declared.Label.{Label}
-use Rattle.moving.specs.declared.Label.the-variants.{Zero}
-use Rattle.moving.specs.Block.{Block, sample, cutByte}
-use Rattle.moving.specs.Label.{labelOf, isZero}
-use Rattle.moving.specs.Violation.{violates}
+use Rattle.moving.specs.Reading.{Reading, violatedBy}
+use Rattle.moving.specs.Order.{moveBy}
 
--- the label that a sample gives a point before any move
-abbrev pub labelBefore : Block → ℕ → Label
-labelBefore b p = labelOf (sample b p)
+module _ (m : Reading) where
+  -- "tried in code order and the search stops at the first that violates": codes 1 to 14, or 0 if none does
+  unfoldable pub choice : List ℕ → ℕ → ℕ
+  choice codes p = let c = firstFrom (violatedBy m codes p) 14 1 in if ltb 14 c then 0 else c
 
--- the label of a point when the first points have the codes `done`: "its label becomes zero" where it moved
-unfoldable pub labelAfter : Block → List ℕ → ℕ → Label
-labelAfter b done p = if eqb (getD done p 0) 0 then labelBefore b p else Zero
+  -- the table at the outset: "0 for a point that did not move"
+  unfoldable pub outset : List ℕ
+  outset = replicate (points (m .sizes)) 0
 
--- "A cut is live while both its ends have non-zero labels"
-unfoldable pub live : Block → List ℕ → ℕ → ℕ → Bool
-live b done p q = not (isZero (labelAfter b done p)) && not (isZero (labelAfter b done q))
+  -- "Points are taken once each, in ascending number": when the first n have had their turns
+  unfoldable pub stateAt : ℕ → List ℕ
+  stateAt n = moveBy choice (below n) outset
 
--- some live cut violates p, and it is the one of code c
-unfoldable pub violatedAlong : Block → List ℕ → ℕ → ℕ → Near → Bool
-violatedAlong b done p c Nothing = false
-violatedAlong b done p c (At q) = live b done p q && violates c (cutByte b (edgeByte p c q))
-
-abbrev pub violatedBy : Block → List ℕ → ℕ → ℕ → Bool
-violatedBy b done p c = violatedAlong b done p c (neighbour (b .sizes) p c)
-
--- "tried in code order and the search stops at the first that violates": codes 1 to 14, or 0 if none does
-unfoldable pub choice : Block → List ℕ → ℕ → ℕ
-choice b done p = let c = firstFrom (violatedBy b done p) 14 1 in if ltb 14 c then 0 else c
-
--- "Points are taken once each, in ascending number": the codes of the first n points
-unfoldable pub codes : Block → ℕ → List ℕ
-codes b zero = []
-codes b (suc p) = let done = codes b p in done ++ (choice b done p ∷ [])
-
--- "The state table, N bytes, holds this code, or 0 for a point that did not move"
-abbrev pub stateOf : Block → List ℕ
-stateOf b = codes b (points (b .sizes))
+  -- "The state table, N bytes, holds this code, or 0 for a point that did not move"
+  abbrev pub stateOf : List ℕ
+  stateOf = stateAt (points (m .sizes))

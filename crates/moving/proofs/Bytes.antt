@@ -1,0 +1,103 @@
+-- Labels by state bytes, and violations taken apart and put together. Assumes nothing.
+use Prim.Native.Nat.{ℕ, _<_}
+use native.Mathlib.Omega.{arith}
+use mathlib.Core.Path.{_≡_, refl, sym, _∙_, subst}
+use mathlib.Core.Logic.{_⊎_, inl, inr}
+use mathlib.Core.Bool.{Bool, true, false, not}
+use mathlib.Core.List.{List}
+use lib.ListN.{length, getD, set}
+use lib.Seq.{getD-set-same, getD-set-other}
+use lib.Dec.{T, eqb}
+use borrow.Author.Tests.{eqb-true, eqb-false, eq-eqb, ne-eqb, le-leb}
+use Rattle.basics.specs.Choice.{if_then_else_}
+use Rattle.basics.proofs.Test.{&&-l, &&-r, &&-i}
+use Rattle.lattice.specs.declared.Near.{Near}
+use Rattle.lattice.specs.declared.Near.the-variants.{At, Nothing}
+use Rattle.lattice.specs.Counts.{points}
+use Rattle.lattice.specs.Direction.{Code}
+use Rattle.lattice.specs.Edge.{neighbour}
+use Rattle.moving.specs.declared.Label.{Label}
+use Rattle.moving.specs.declared.Label.the-variants.{Zero}
+use Rattle.moving.specs.Label.{isZero}
+use Rattle.moving.specs.Violation.{violates}
+use Rattle.moving.specs.Reading.{Reading, isMove, saysZero, labelAfter, live, cutAlong, violatedAlong, violatedBy}
+use Rattle.moving.proofs.Settled.{NonZero, Edge, Violating, MayMove}
+
+-- two numbers are equal or not
+pub same-or : (a b : ℕ) → (a ≡ b) ⊎ (a ≡ b → ⊥)
+same-or a b = go (eqb a b) refl
+  where
+    go : (t : Bool) → eqb a b ≡ t → (a ≡ b) ⊎ (a ≡ b → ⊥)
+    go true e = inl (eqb-true a b e)
+    go false e = inr (eqb-false a b e)
+
+-- codes are moves, 0 is none
+pub code-move : (c : ℕ) → Code c → isMove c ≡ true
+unfolding isMove
+code-move c h = simp (le-leb 1 c (h .low), le-leb c 14 (h .high))
+
+pub code-nonzero : (c : ℕ) → Code c → isMove c ≡ saysZero c
+code-nonzero c h = rw (code-move c h, ne-eqb c 0 (λ e. omega (arith, h .low))) refl
+
+pub zero-rests : (c : ℕ) → c ≡ 0 → isMove c ≡ false
+unfolding isMove
+zero-rests c e = rw e refl
+
+-- an entry of a table after one of them was set to a code: 0 only if it was 0 before
+pub set-zero : (t : List ℕ) (p c q : ℕ) → p < length t → Code c → getD (set t p c) q 0 ≡ 0 → getD t q 0 ≡ 0
+set-zero t p c q h k z =
+    elim (same-or q p) [
+      | inl e ↦ absurd (omega (arith, k .low, sym (getD-set-same t p c 0 h) ∙ (rw e at z)))
+      | inr n ↦ sym (getD-set-other t p q c 0 n) ∙ z
+    ]
+
+module _ (label : ℕ → Label) (codes : List ℕ) where
+  -- a label in terms of its state byte
+  pub label-still : (p : ℕ) → getD codes p 0 ≡ 0 → labelAfter label codes p ≡ label p
+  unfolding labelAfter
+  label-still p e = simp (eq-eqb _ _ e)
+
+  pub label-moved : (p : ℕ) → (getD codes p 0 ≡ 0 → ⊥) → labelAfter label codes p ≡ Zero
+  unfolding labelAfter
+  label-moved p n = simp (ne-eqb _ _ n)
+
+  -- a label that is not zero is that of the outset, and the byte is 0
+  pub nonzero-still : (p : ℕ) → NonZero (labelAfter label codes p) → getD codes p 0 ≡ 0
+  unfolding isZero
+  nonzero-still p t =
+      elim (same-or (getD codes p 0) 0) [
+        | inl e ↦ e
+        | inr n ↦ absurd (subst NonZero (label-moved p n) t)
+      ]
+
+  pub nonzero-outset : (p : ℕ) → NonZero (labelAfter label codes p) → NonZero (label p)
+  nonzero-outset p t = subst NonZero (label-still p (nonzero-still p t)) t
+
+  pub nonzero-i : (p : ℕ) → getD codes p 0 ≡ 0 → NonZero (label p) → NonZero (labelAfter label codes p)
+  nonzero-i p e t = subst NonZero (sym (label-still p e)) t
+
+module _ (m : Reading) (codes : List ℕ) (p c : ℕ) where
+  -- the violating cut of a code that violates
+  pub violating-of : p < points (m .sizes) → Code c → T (violatedBy m codes p c) → MayMove m codes p c
+  unfolding violatedAlong live
+  violating-of h k t = go (neighbour (m .sizes) p c) refl t
+    where
+      go : (n : Near) → neighbour (m .sizes) p c ≡ n → T (violatedAlong m codes p c n) → MayMove m codes p c
+      go Nothing e t = absurd t
+      go (At q) e t =
+          let alive = &&-l (live (m .label) codes p q) _ t in
+          let here-alive = not (isZero (labelAfter (m .label) codes p)) in (
+            q,
+            record {
+              edge = record { point = h; code = k; leads = e };
+              here = &&-l here-alive _ alive;
+              there = &&-r here-alive _ alive;
+              near = &&-r (live (m .label) codes p q) (violates (m .rule) c (cutAlong m p c q)) t;
+            },
+          )
+
+  pub violating-i : (q : ℕ) → Violating m codes p c q → T (violatedBy m codes p c)
+  unfolding violatedAlong live
+  violating-i q v =
+      rw (v .edge .leads)
+      (&&-i (live (m .label) codes p q) _ (&&-i (not (isZero (labelAfter (m .label) codes p))) _ (v .here) (v .there)) (v .near))

@@ -1,0 +1,54 @@
+-- What moving reads, and the labels and violations at any time of it. Rules and orders are stated over this.
+--     Reading                  sizes, labels at the outset, cut bytes, a rule
+--     isMove, saysZero         what a state byte says of its point
+--     labelAfter, live         labels while points move
+--     violatedBy               a live cut violates a point
+use Prim.Native.Nat.{ℕ}
+use mathlib.Core.Bool.{Bool, false, not, _&&_}
+use mathlib.Core.List.{List}
+use lib.ListN.{getD}
+use lib.Dec.{eqb, leb}
+use Rattle.basics.specs.Choice.{if_then_else_}
+use Rattle.lattice.specs.declared.Sizes.{Sizes}
+use Rattle.lattice.specs.declared.Near.{Near}
+use Rattle.lattice.specs.declared.Near.the-variants.{At, Nothing}
+use Rattle.lattice.specs.Edge.{neighbour, edgeByte}
+use Rattle.moving.specs.declared.Label.{Label}
+use Rattle.moving.specs.declared.Label.the-variants.{Zero}
+use Rattle.moving.specs.Label.{isZero}
+use Rattle.moving.specs.Violation.{Rule, violates}
+
+pub record Reading : Type 0 where
+  pub sizes : Sizes
+  pub label : ℕ → Label
+  pub cuts : List ℕ
+  pub rule : Rule
+
+-- a state byte that is a code, 1 to 14, says that its point moved
+unfoldable pub isMove : ℕ → Bool
+isMove c = leb 1 c && leb c 14
+
+-- a state byte that is not 0 says that its point's label is zero
+abbrev pub saysZero : ℕ → Bool
+saysZero c = not (eqb c 0)
+
+-- the label of a point when the state bytes are `codes`: "its label becomes zero" where it moved
+unfoldable pub labelAfter : (ℕ → Label) → List ℕ → ℕ → Label
+labelAfter label codes p = if saysZero (getD codes p 0) then Zero else label p
+
+-- "A cut is live while both its ends have non-zero labels"
+unfoldable pub live : (ℕ → Label) → List ℕ → ℕ → ℕ → Bool
+live label codes p q = not (isZero (labelAfter label codes p)) && not (isZero (labelAfter label codes q))
+
+module _ (m : Reading) where
+  -- the byte of the cut on the edge that leads from p by a code to q
+  abbrev pub cutAlong : ℕ → ℕ → ℕ → ℕ
+  cutAlong p c q = getD (m .cuts) (edgeByte p c q) 0
+
+  -- the cut on the edge by code c, to this neighbour, is live and violates p
+  unfoldable pub violatedAlong : List ℕ → ℕ → ℕ → Near → Bool
+  violatedAlong codes p c Nothing = false
+  violatedAlong codes p c (At q) = live (m .label) codes p q && violates (m .rule) c (cutAlong p c q)
+
+  abbrev pub violatedBy : List ℕ → ℕ → ℕ → Bool
+  violatedBy codes p c = violatedAlong codes p c (neighbour (m .sizes) p c)
