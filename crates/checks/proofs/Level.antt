@@ -18,15 +18,16 @@ use Rattle.moving.specs.Block.{blockOf}
 use Rattle.filling.specs.Check.{crosses}
 use Rattle.checks.specs.declared.Fault.the-variants.{Fine}
 use Rattle.checks.specs.inner.Faults.{Asked, tableFault}
-use Rattle.checks.specs.inner.Inner.{endsOf, endsAt, Level}
-use Rattle.checks.specs.inner.Lines.{Line, lineAt}
-use Rattle.checks.specs.inner.Outside.{hasSign}
-use Rattle.checks.proofs.Labels.{same-sign}
-use Rattle.checks.proofs.Points.{stands, sited}
-use Rattle.checks.proofs.Lines.{line-stands, asked-line}
+use Rattle.ground.specs.inner.Strides.{endsOf, endsAt}
+use Rattle.checks.specs.inner.Inner.{Level}
+use Rattle.ground.specs.inner.Lines.{Line, lineAt}
+use Rattle.ground.specs.inner.Signs.{hasSign}
+use Rattle.ground.proofs.Labels.{same-sign}
+use Rattle.ground.proofs.Points.{stands, sited}
+use Rattle.ground.proofs.Lines.{line-stands, asked-line}
 use Rattle.checks.proofs.Table.{crosses-cuts}
-use Rattle.checks.proofs.Reach.{start, crossing-is, numbers-sited}
-use Rattle.checks.proofs.CornerEnds.{down}
+use Rattle.ground.proofs.Reach.{start, crossing-is, numbers-sited}
+use Rattle.ground.proofs.CornerEnds.{down}
 use Rattle.checks.proofs.Still.{all-fine, some-leads}
 
 -- where the five ranges start: at the line, at the far ends of its first point along y and z, and at the lower ones of the two pairs of

@@ -1,14 +1,7 @@
-pub mod Labels
 pub mod Steps
 pub mod Faults
-pub mod Points
-pub mod Lines
 pub mod Outside
 pub mod Table
-pub mod Reach
-pub mod CornerEnds
-pub mod CentreEnds
 pub mod Still
 pub mod Answers
-pub mod Folds
 pub mod Level

@@ -17,11 +17,11 @@ use Rattle.lattice.specs.Counts.{Sized, grid, points}
 use Rattle.lattice.specs.Rim.{outermost, rimAt, rim}
 use Rattle.moving.specs.Block.{blockOf}
 use Rattle.filling.specs.Check.{rimFault, firstRim}
-use Rattle.checks.specs.inner.Lines.{Line, lineAt}
+use Rattle.ground.specs.inner.Lines.{Line, lineAt}
 use Rattle.checks.specs.inner.Outside.{plusAt, outside}
 use Rattle.checks.proofs.Steps.{first-unique, part-hit, part-miss, search-same, search-end}
-use Rattle.checks.proofs.Points.{rim-at}
-use Rattle.checks.proofs.Lines.{line-at, line-own, line-fits, some}
+use Rattle.ground.proofs.Points.{rim-at}
+use Rattle.ground.proofs.Lines.{line-at, line-own, line-fits, some}
 
 or-true : (b : Bool) → (b || true) ≡ true
 or-true true = refl

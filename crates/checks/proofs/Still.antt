@@ -18,13 +18,14 @@ use Rattle.moving.specs.Block.{blockOf}
 use Rattle.moving.specs.Label.{labelOf, opposed}
 use Rattle.checks.specs.declared.Fault.the-variants.{Fine}
 use Rattle.checks.specs.inner.Faults.{Asked, faultAt, firstFault, sevenFault, crossingsAt}
-use Rattle.checks.specs.inner.Inner.{Inner, endsOf, endsAt}
+use Rattle.ground.specs.inner.Strides.{endsOf, endsAt}
+use Rattle.checks.specs.inner.Inner.{Inner}
 use Rattle.checks.proofs.Faults.{none-at}
-use Rattle.checks.proofs.Points.{stands}
+use Rattle.ground.proofs.Points.{stands}
 use Rattle.checks.proofs.Table.{crossing-at}
-use Rattle.checks.proofs.Reach.{Leads, start, ready, crossing-is}
-use Rattle.checks.proofs.CornerEnds as corner
-use Rattle.checks.proofs.CentreEnds as centre
+use Rattle.ground.proofs.Reach.{Leads, start, ready, crossing-is}
+use Rattle.ground.proofs.CornerEnds as corner
+use Rattle.ground.proofs.CentreEnds as centre
 
 -- bytes that are all zero where nothing must be
 pub all-fine : (must : ℕ → Bool) (byte : ℕ → ℕ) (n o : ℕ) → ((k : ℕ) → o ≤ k → k < o + n → must k ≡ false)

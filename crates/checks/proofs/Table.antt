@@ -20,8 +20,8 @@ use Rattle.filling.specs.Check.{crosses, crossesTo, cutFault}
 use Rattle.checks.specs.declared.Fault.{Fault}
 use Rattle.checks.specs.declared.Fault.the-variants.{Fine}
 use Rattle.checks.specs.inner.Faults.{CutAnswer, orElse, firstFault, mustAt, tableFault, sevenFault, crossingsAt}
-use Rattle.checks.specs.inner.Lines.{Line}
-use Rattle.checks.proofs.Lines.{line-own, line-fits}
+use Rattle.ground.specs.inner.Lines.{Line}
+use Rattle.ground.proofs.Lines.{line-own, line-fits}
 use Rattle.checks.proofs.Faults.{fault-split, found, raise, fault-part}
 
 -- the cut bytes are not asked

@@ -1,6 +1,6 @@
 // Which edges from a point cross the skin. The seven far ends stand a few strides from the point's own
 // number or from the number of its indices in the other kind, so no neighbour is built.
-use crate::signs;
+use ground::signs;
 use lattice::Kind;
 use lattice::Site;
 use lattice::Sizes;

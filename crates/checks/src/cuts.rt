@@ -3,7 +3,7 @@ use crate::Fault;
 use crate::crossing;
 use crate::quiet;
 use crate::seven;
-use crate::walk;
+use ground::walk;
 use lattice::Site;
 use lattice::Sizes;
 use lattice::counts;
@@ -14,7 +14,7 @@ ghost use Prim.Native.Nat.{_≤_};
 ghost use lib.ListN.{length};
 ghost use Rattle.moving.specs.Block.{blockOf, Tabled};
 ghost use Rattle.checks.specs.inner.Faults.{Asked, CutAnswer, crossingsAt, offsetOf, sevenFault, lineFault};
-ghost use Rattle.checks.specs.inner.Lines.{Line};
+ghost use Rattle.ground.specs.inner.Lines.{Line};
 
 // The first byte at fault of a point's seven, which are lent to it. Most points need only a glance.
 fn site_fault(s: Sizes, samples: &[i16], bytes: &[u8], q: Site) -> Fault

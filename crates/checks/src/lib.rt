@@ -3,11 +3,8 @@
 pub mod crossing;
 pub mod cuts;
 pub mod quiet;
-pub mod ranges;
 pub mod rim;
 pub mod seven;
-pub mod signs;
-pub mod walk;
 
 // What is wrong with a cut byte, and at which offset.
 pub enum Fault {

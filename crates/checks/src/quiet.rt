@@ -1,9 +1,9 @@
 // Points with nothing to find: no edge crosses and all seven bytes are zero. Most points are so, and
 // most lines of points.
-use crate::ranges;
-use crate::signs;
-use crate::walk;
-use lattice::Kind;
+use ground::ranges;
+use ground::strides;
+use ground::signs;
+use ground::walk;
 use lattice::Site;
 use lattice::Sizes;
 use lattice::edges;
@@ -13,14 +13,12 @@ ghost use mathlib.Core.List.{[]};
 ghost use Prim.Native.Nat.{ℕ, _<_, _≤_};
 ghost use lib.IntN.{pos};
 ghost use lib.ListN.{length, getD};
-ghost use Rattle.lattice.specs.Counts.{Sized};
-ghost use Rattle.lattice.specs.inner.Site.{Sited};
 ghost use Rattle.moving.specs.Block.{blockOf, Tabled};
 ghost use Rattle.moving.specs.Label.{labelOf, opposed};
 ghost use Rattle.checks.specs.declared.Fault.the-variants.{Fine};
 ghost use Rattle.checks.specs.inner.Faults.{Asked, crossingsAt, sevenFault, lineFault};
-ghost use Rattle.checks.specs.inner.Inner.{Inner, endsAt, Level};
-ghost use Rattle.checks.specs.inner.Lines.{Line};
+ghost use Rattle.checks.specs.inner.Inner.{Inner, Level};
+ghost use Rattle.ground.specs.inner.Lines.{Line};
 
 // All seven far ends are in the block.
 fn is_inner(s: Sizes, q: Site) -> bool
@@ -39,40 +37,6 @@ fn is_inner(s: Sizes, q: Site) -> bool
         }
     }
     false
-}
-
-// The seven far ends, in the order of the directions: strides from the point's own number, and from
-// the number of its indices in the other kind.
-fn ends(s: Sizes, q: Site) -> [usize; 7]
-    requires { ⌜ Sized s ⌝ }
-    requires { ⌜ Sited s q ⌝ }
-    ensures { λ r. ⌜ r ≡ endsAt s q ⌝ }
-{
-    let own = q.own;
-    let across = q.across;
-    let line = s.nx + 1;
-    let layer = line * (s.ny + 1);
-    let kind = q.kind;
-    match kind {
-        Kind::Corner => [
-            own + 1,
-            own + line,
-            own + layer,
-            across,
-            across - 1,
-            across - s.nx,
-            across - line,
-        ],
-        Kind::Centre => [
-            own + 1,
-            own + s.nx,
-            own + s.nx * s.ny,
-            across + layer + line + 1,
-            across + layer + line,
-            across + layer + 1,
-            across + layer,
-        ],
-    }
 }
 
 // No sample of a far end is opposed to the point's own.
@@ -98,7 +62,7 @@ pub fn is_quiet(s: Sizes, samples: &[i16], bytes: &[u8], q: Site) -> bool
 {
     let own = q.own;
     if is_inner(s, q) {
-        if is_calm(samples, own, ends(s, q)) {
+        if is_calm(samples, own, strides::ahead(s, q)) {
             return ranges::is_blank(bytes, 0, 7);
         }
     }
@@ -132,7 +96,7 @@ pub fn is_quiet_line(s: Sizes, samples: &[i16], cuts: &[u8], q: Site) -> bool
     let own = q.own;
     let m = walk::line_length(s, kind);
     if ranges::is_blank(cuts, 7 * own, 7 * (own + m)) {
-        let far = ends(s, q);
+        let far = strides::ahead(s, q);
         let starts = [own, far[1], far[2], far[4], far[6]];
         if is_level(true, samples, starts, m) {
             return true;

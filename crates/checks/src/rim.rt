@@ -1,7 +1,7 @@
 // Rim points whose sample is above zero. Of a line inside its layer and its block only the two ends
 // are on the rim.
-use crate::signs;
-use crate::walk;
+use ground::signs;
+use ground::walk;
 use lattice::Site;
 use lattice::Sizes;
 use lattice::counts;
@@ -19,7 +19,7 @@ ghost use Rattle.lattice.specs.Counts.{Sized, grid, points};
 ghost use Rattle.lattice.specs.Rim.{outermost};
 ghost use Rattle.moving.specs.Block.{blockOf};
 ghost use Rattle.filling.specs.Check.{firstRim};
-ghost use Rattle.checks.specs.inner.Lines.{Line};
+ghost use Rattle.ground.specs.inner.Lines.{Line};
 ghost use Rattle.checks.specs.inner.Outside.{plusAt, outside};
 
 // All points of a line are on the rim.

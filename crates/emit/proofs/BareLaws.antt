@@ -6,7 +6,7 @@ use mathlib.Core.Bool.{true, false}
 use mathlib.Core.List.{List}
 use lib.IntN.{ℤ, pos}
 use lib.ListN.{getD}
-use Rattle.checks.specs.inner.Outside.{hasSign}
+use Rattle.ground.specs.inner.Signs.{hasSign}
 use Rattle.emit.specs.declared.Cube.{Cube}
 use Rattle.emit.specs.inner.Cubes.{Light, plusAt, plusCount}
 use Rattle.emit.specs.inner.Passes.{movedCube, KnownRun}

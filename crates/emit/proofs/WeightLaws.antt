@@ -14,7 +14,7 @@ use borrow.Author.Tests.{ltb-true, ltb-false, eq-eqb, ne-eqb}
 use Rattle.basics.specs.Choice.{if_then_else_}
 use Rattle.moving.specs.Label.{labelOf, isPlus}
 use Rattle.moving.specs.Moving.{labelAfter}
-use Rattle.checks.proofs.Labels.{plus-test}
+use Rattle.ground.proofs.Labels.{plus-test}
 use Rattle.emit.specs.inner.Picks.{weight}
 use Rattle.emit.specs.inner.Cubes.{weightAt, plusAt}
 

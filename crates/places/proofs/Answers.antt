@@ -25,8 +25,8 @@ use Rattle.lattice.proofs.Edge.{far}
 use Rattle.moving.specs.Violation.{measured, violates}
 use Rattle.geometry.specs.Place.{latticePlace, rest, cutPlace, movedPlace, pointPlace, placeOf}
 use Rattle.filling.specs.Located.{reaches, believable, standsTo, stands, idFault, locate}
-use Rattle.places.specs.declared.Place.{Place}
-use Rattle.places.specs.inner.Places.{placeAt, along, Nonnegative}
+use Rattle.ground.specs.declared.Place.{Place}
+use Rattle.ground.specs.inner.Places.{placeAt, along, Nonnegative}
 use Rattle.places.specs.inner.Answer.{placedAt, refusedWith, movedAnswer, pointAnswer, cutAnswer}
 use Rattle.places.proofs.FromEnd.{moved-along, cut-along}
 

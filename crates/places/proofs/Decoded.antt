@@ -12,7 +12,7 @@ use Rattle.lattice.specs.Point.{kindOf, indexOf}
 use Rattle.lattice.specs.Edge.{near, neighbour}
 use Rattle.lattice.specs.inner.Site.{index, siteAt, siteOf}
 use Rattle.lattice.proofs.Sites.{site-small}
-use Rattle.warp.proofs.Sites.{siting}
+use Rattle.ground.proofs.Sites.{siting}
 use Rattle.geometry.specs.Place.{latticePlace, rest}
 
 index-site : (s : Sizes) (k : Kind) (i : Axis → ℕ) → index (siteAt s k i) ≡ i

@@ -1,5 +1,3 @@
-pub mod Box
-pub mod Terms
 pub mod Standing
 pub mod FromEnd
 pub mod Decoded

@@ -1,5 +1,5 @@
 // The place call: where the corner of a row with a given id stands.
-use crate::Place;
+use ground::Place;
 use crate::points;
 use filling::Placed;
 use lattice::Near;
@@ -7,7 +7,7 @@ use lattice::Sizes;
 use lattice::counts;
 use lattice::edges;
 use lattice::numbers;
-use warp::violation;
+use ground::violation;
 ghost use mathlib.Core.Path.{_≡_};
 ghost use Prim.Native.Nat.{_*_, _<_};
 ghost use lib.ListN.{length};
@@ -15,7 +15,7 @@ ghost use Rattle.lattice.specs.Counts.{Sized, points};
 ghost use Rattle.lattice.specs.Direction.{Code};
 ghost use Rattle.lattice.specs.Edge.{neighbour};
 ghost use Rattle.filling.specs.Located.{locate};
-ghost use Rattle.places.specs.inner.Places.{placeAt, InBox, placeBox, Nonnegative};
+ghost use Rattle.ground.specs.inner.Places.{placeAt, InBox, placeBox, Nonnegative};
 ghost use Rattle.places.specs.inner.Answer.{placedAt, refusedWith, movedAnswer, pointAnswer, cutAnswer};
 
 fn answered(p: Place) -> Placed

@@ -1,5 +1,5 @@
 // Where lattice points, cuts and moved points stand.
-use crate::Place;
+use ground::Place;
 use lattice::Kind;
 use lattice::edges;
 ghost use mathlib.Core.Path.{_≡_};
@@ -9,7 +9,7 @@ ghost use Rattle.lattice.specs.Axis.{xyz};
 ghost use Rattle.lattice.specs.Direction.{Code, direction, step};
 ghost use Rattle.moving.specs.Violation.{measured};
 ghost use Rattle.geometry.specs.Place.{latticePlace};
-ghost use Rattle.places.specs.inner.Places.{placeAt, along, Within, InBox, latticeBox, placeBox};
+ghost use Rattle.ground.specs.inner.Places.{placeAt, along, Within, InBox, latticeBox, placeBox};
 
 // A lattice coordinate.
 fn coordinate(i: usize, odd: usize) -> i64

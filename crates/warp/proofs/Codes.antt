@@ -24,7 +24,7 @@ use Rattle.moving.specs.Violation.{violates}
 use Rattle.moving.specs.Moving.{labelAfter, live, violatedAlong, violatedBy, choice, codes, stateOf}
 use Rattle.moving.proofs.Moved.{codes-length}
 use Rattle.filling.specs.Fill.{movedCount}
-use Rattle.checks.specs.inner.Lines.{Line}
+use Rattle.ground.specs.inner.Lines.{Line}
 use Rattle.warp.specs.inner.Quick.{Coded}
 
 -- an edge's byte is in the table

@@ -22,13 +22,15 @@ use Rattle.moving.specs.Block.{Block, blockOf, cutByte}
 use Rattle.moving.specs.Violation.{violates}
 use Rattle.moving.specs.Moving.{live, violatedAlong, violatedBy, choice, codes}
 use Rattle.filling.specs.Fill.{movedCount}
-use Rattle.checks.specs.inner.Lines.{Line, lineAt}
-use Rattle.checks.proofs.Points.{sited}
-use Rattle.checks.proofs.Lines.{line-stands, line-at}
-use Rattle.warp.specs.inner.Quick.{startsAt, Offsets, Spared, Uncut, Idle, Coded}
-use Rattle.warp.proofs.Sites.{site-near}
+use Rattle.ground.specs.inner.Lines.{Line, lineAt}
+use Rattle.ground.proofs.Points.{sited}
+use Rattle.ground.proofs.Lines.{line-stands, line-at}
+use Rattle.ground.specs.inner.Strides.{startsAt}
+use Rattle.warp.specs.inner.Quick.{Offsets, Spared, Uncut, Idle, Coded}
+use Rattle.ground.proofs.Sites.{site-near}
 use Rattle.warp.proofs.Codes.{Searching, search-starts, search-on, search-ends, coded-next, counted-still}
-use Rattle.warp.proofs.Starts.{byte-start, byte-end, start-first, start-fourth, start-sixth, start-within}
+use Rattle.ground.proofs.FarEnds.{start-first, start-fourth, start-sixth, start-within}
+use Rattle.warp.proofs.Offsets.{byte-start, byte-end}
 
 and-false : (t : Bool) → (t && false) ≡ false
 and-false true = refl

@@ -1,6 +1,5 @@
 pub mod Signs
-pub mod Sites
 pub mod Codes
-pub mod Starts
+pub mod Offsets
 pub mod Idle
 pub mod Passed

@@ -9,8 +9,8 @@ use Rattle.lattice.specs.Counts.{Sized, grid, points}
 use Rattle.moving.specs.Block.{Block}
 use Rattle.moving.specs.Moving.{codes}
 use Rattle.filling.specs.Fill.{movedCount}
-use Rattle.checks.specs.inner.Lines.{Line}
-use Rattle.checks.proofs.Lines.{line-own, line-fits}
+use Rattle.ground.specs.inner.Lines.{Line}
+use Rattle.ground.proofs.Lines.{line-own, line-fits}
 use Rattle.warp.specs.inner.Quick.{Idle, Coded}
 use Rattle.warp.proofs.Codes.{Warped}
 use Rattle.warp.proofs.Idle.{idle-counted}

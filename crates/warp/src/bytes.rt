@@ -1,8 +1,8 @@
 // The cut bytes of a point's fourteen edges, by strides: quick, and without asking which of the
 // edges exist.
-use checks::ranges;
-use checks::walk;
-use lattice::Kind;
+use ground::ranges;
+use ground::strides;
+use ground::walk;
 use lattice::Site;
 use lattice::Sizes;
 ghost use mathlib.Core.Path.{_≡_};
@@ -15,51 +15,8 @@ ghost use Rattle.lattice.specs.Axis.{along-x};
 ghost use Rattle.lattice.specs.Counts.{Sized, grid};
 ghost use Rattle.lattice.specs.inner.Site.{Sited};
 ghost use Rattle.moving.specs.Block.{blockOf};
-ghost use Rattle.checks.specs.inner.Lines.{Line};
-ghost use Rattle.warp.specs.inner.Quick.{startsBack, startsAt, Offsets, Uncut, Idle};
-
-// So many numbers before p, or 0.
-fn before(p: usize, stride: usize) -> usize
-    ensures { λ r. ⌜ r ≡ p - stride ⌝ }
-{
-    if stride <= p { p - stride } else { 0 }
-}
-
-// The starts of the seven edges that end at a point, by direction.
-fn starts_back(line: usize, layer: usize, wide: usize, own: usize, low: usize) -> [usize; 7]
-    requires { ⌜ (own ≤ 1000000) × (low ≤ 1000000) × (wide ≤ 65) ⌝ }
-    ensures { λ r. ⌜ r ≡ startsBack line layer wide own low ⌝ }
-{
-    let along_x = before(own, 1);
-    let along_y = before(own, line);
-    let along_z = before(own, layer);
-    let high = low + wide;
-    [along_x, along_y, along_z, low, low + 1, high, high + 1]
-}
-
-// The same from the sizes: a corner is the end of edges from the eight centres about it, a centre
-// from the corners of its cube.
-fn starts(s: Sizes, q: Site) -> [usize; 7]
-    requires { ⌜ Sized s ⌝ }
-    requires { ⌜ Sited s q ⌝ }
-    ensures { λ r. ⌜ r ≡ startsAt s q ⌝ }
-{
-    let kind = q.kind;
-    match kind {
-        Kind::Corner => {
-            let wide = s.nx;
-            let line = wide + 1;
-            let layer = line * (s.ny + 1);
-            let low = q.across - (wide * s.ny + line);
-            starts_back(line, layer, wide, q.own, low)
-        }
-        Kind::Centre => {
-            let line = s.nx;
-            let layer = line * s.ny;
-            starts_back(line, layer, line + 1, q.own, q.across)
-        }
-    }
-}
+ghost use Rattle.ground.specs.inner.Lines.{Line};
+ghost use Rattle.warp.specs.inner.Quick.{Offsets, Uncut, Idle};
 
 // Where the bytes of a point's fourteen edges stand, by code, each if its edge exists.
 pub fn offsets(s: Sizes, q: Site) -> [usize; 14]
@@ -67,7 +24,7 @@ pub fn offsets(s: Sizes, q: Site) -> [usize; 14]
     requires { ⌜ Sited s q ⌝ }
     ensures { λ r. ⌜ Offsets s q r ⌝ }
 {
-    let back = starts(s, q);
+    let back = strides::behind(s, q);
     let first = 7 * q.own;
     [
         first,
@@ -114,7 +71,7 @@ pub fn is_idle_line(s: Sizes, cuts: &[u8], q: Site) -> bool
 {
     let kind = q.kind;
     let m = walk::line_length(s, kind);
-    let back = starts(s, q);
+    let back = strides::behind(s, q);
     if is_uncut(cuts, back[0], m) {
         if is_uncut(cuts, back[1], m) {
             if is_uncut(cuts, back[2], m) {

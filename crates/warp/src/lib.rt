@@ -1,5 +1,3 @@
 // Moving lattice points to cuts that are too near.
 pub mod bytes;
-pub mod labels;
 pub mod moves;
-pub mod violation;

@@ -1,7 +1,7 @@
 // Which points move, and by which code.
 use crate::bytes;
-use crate::violation;
-use checks::walk;
+use ground::violation;
+use ground::walk;
 use lattice::Near;
 use lattice::Site;
 use lattice::Sizes;
@@ -24,7 +24,7 @@ ghost use Rattle.moving.specs.Block.{Block, blockOf, Tabled};
 ghost use Rattle.moving.specs.Label.{isZero};
 ghost use Rattle.moving.specs.Moving.{labelAfter, live, violatedBy, codes, stateOf};
 ghost use Rattle.filling.specs.Fill.{movedCount};
-ghost use Rattle.checks.specs.inner.Lines.{Line};
+ghost use Rattle.ground.specs.inner.Lines.{Line};
 ghost use Rattle.warp.specs.inner.Quick.{Spared, Idle, Coded};
 
 // A point's label is zero: its sample is, or it is among the points done and has moved. Sizes and

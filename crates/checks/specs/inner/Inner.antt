@@ -10,7 +10,7 @@ use Rattle.lattice.specs.declared.Kind.{Kind}
 use Rattle.lattice.specs.declared.Kind.the-variants.{Corner, Centre}
 use Rattle.lattice.specs.declared.Site.{Site}
 use Rattle.lattice.specs.inner.Site.{oddOf}
-use Rattle.checks.specs.inner.Outside.{hasSign}
+use Rattle.ground.specs.inner.Signs.{hasSign}
 
 pub record Inner (s : Sizes) (q : Site) : Type 0 where
   pub x-low : 0 < q .x
@@ -18,29 +18,6 @@ pub record Inner (s : Sizes) (q : Site) : Type 0 where
   pub y-low : 0 < q .y
   pub y-high : q .y + oddOf (q .kind) < s .ny
   pub z-high : q .z + oddOf (q .kind) < s .nz
-
-abbrev pub endsOf : Kind → Sizes → Site → List ℕ
-endsOf Corner s q =
-    (q .own + 1)
-    ∷ (q .own + (s .nx + 1))
-    ∷ (q .own + (s .nx + 1) * (s .ny + 1))
-    ∷ (q .across)
-    ∷ (q .across - 1)
-    ∷ (q .across - s .nx)
-    ∷ (q .across - (s .nx + 1))
-    ∷ []
-endsOf Centre s q =
-    (q .own + 1)
-    ∷ (q .own + s .nx)
-    ∷ (q .own + s .nx * s .ny)
-    ∷ (q .across + (s .nx + 1) * (s .ny + 1) + (s .nx + 1) + 1)
-    ∷ (q .across + (s .nx + 1) * (s .ny + 1) + (s .nx + 1))
-    ∷ (q .across + (s .nx + 1) * (s .ny + 1) + 1)
-    ∷ (q .across + (s .nx + 1) * (s .ny + 1))
-    ∷ []
-
-unfoldable pub endsAt : Sizes → Site → List ℕ
-endsAt s q = endsOf (q .kind) s q
 
 -- none of the m + 1 samples from each of five numbers on has the sign
 pub record Level (plus : Bool) (samples : List ℤ) (starts : List ℕ) (m : ℕ) : Type 0 where

@@ -9,11 +9,6 @@ use Rattle.moving.specs.Block.{blockOf}
 use Rattle.moving.specs.Label.{labelOf, isPlus, isMinus}
 use Rattle.filling.specs.Check.{rimFault}
 
--- above zero, or below
-unfoldable pub hasSign : Bool → ℤ → Bool
-hasSign true x = isPlus (labelOf x)
-hasSign false x = isMinus (labelOf x)
-
 unfoldable pub plusAt : List ℤ → ℕ → Bool
 plusAt samples p = isPlus (labelOf (getD samples p (pos 0)))
 

@@ -17,20 +17,6 @@ use Rattle.moving.specs.Block.{Block}
 use Rattle.moving.specs.Violation.{violates}
 use Rattle.moving.specs.Moving.{violatedBy, codes}
 
--- the starts of the seven edges that end at a point, by direction: along a long edge some numbers before the point's own, along a
--- short one a corner of a face of the other grid, whose lowest corner is `low`
-unfoldable pub startsBack : ℕ → ℕ → ℕ → ℕ → ℕ → List ℕ
-startsBack line layer wide own low =
-    (own - 1) ∷ (own - line) ∷ (own - layer) ∷ low ∷ (low + 1) ∷ (low + wide) ∷ (low + wide + 1) ∷ []
-
--- the same from the sizes: a corner is the end of edges from the eight centres about it, a centre from the corners of its cube
-abbrev pub startsOf : Kind → Sizes → Site → List ℕ
-startsOf Corner s q = startsBack (s .nx + 1) ((s .nx + 1) * (s .ny + 1)) (s .nx) (q .own) (q .across - (s .nx * s .ny + (s .nx + 1)))
-startsOf Centre s q = startsBack (s .nx) (s .nx * s .ny) (s .nx + 1) (q .own) (q .across)
-
-unfoldable pub startsAt : Sizes → Site → List ℕ
-startsAt s q = startsOf (q .kind) s q
-
 -- where the bytes of a point's fourteen edges stand, by code, each if its edge exists
 pub record Offsets (s : Sizes) (q : Site) (at : List ℕ) : Type 0 where
   pub byte : (c : ℕ) → Code c → (e : ℕ) → near s (q .kind) (index q) c ≡ At e → getD at (c - 1) 0 ≡ edgeByte (q .own) c e

@@ -8,9 +8,9 @@ use mathlib.Core.List.{[], _∷_}
 use lib.Dec.{ltb}
 use Rattle.lattice.proofs.Bounds.{small}
 use Rattle.checks.specs.inner.Faults.{crossingsAt}
-use Rattle.checks.proofs.Points.{stands}
-use Rattle.checks.proofs.Reach.{start, crossing-is, ready, numbers-fit}
-use Rattle.checks.proofs.CentreEnds.{end-0, end-1, end-2, end-3, end-4, end-5, end-6}
+use Rattle.ground.proofs.Points.{stands}
+use Rattle.ground.proofs.Reach.{start, crossing-is, ready, numbers-fit}
+use Rattle.ground.proofs.CentreEnds.{end-0, end-1, end-2, end-3, end-4, end-5, end-6}
 use borrow.Author.Needs.{needs}
 use Rattle.checks.proofs.crossing.centre_crossings.Statement.{statement}
 use Rattle.checks.proofs.crossing.centre_crossings.Tie as tie

@@ -1,7 +1,7 @@
 -- The two samples are compared where the edge is there. Assumes nothing.
 use native.Mathlib.Omega.{arith}
 use mathlib.Core.Path.{_∙_}
-use Rattle.checks.proofs.Labels.{opposed-handed}
+use Rattle.ground.proofs.Labels.{opposed-handed}
 use borrow.Author.Needs.{needs}
 use Rattle.checks.proofs.crossing.crosses_if.Statement.{statement}
 use Rattle.checks.proofs.crossing.crosses_if.Tie as tie

@@ -5,9 +5,9 @@ use mathlib.Core.Path.{_≡_, refl, sym, _∙_}
 use Rattle.lattice.proofs.Bounds.{points-small}
 use Rattle.moving.specs.Block.{blockOf}
 use Rattle.checks.specs.inner.Faults.{tableFault}
-use Rattle.checks.specs.inner.Lines.{Line}
-use Rattle.checks.proofs.Points.{points-some}
-use Rattle.checks.proofs.Lines.{line-own, line-fits, line-self, line-on, line-first}
+use Rattle.ground.specs.inner.Lines.{Line}
+use Rattle.ground.proofs.Points.{points-some}
+use Rattle.ground.proofs.Lines.{line-own, line-fits, line-self, line-on, line-first}
 use Rattle.checks.proofs.Table.{answer-is, all-left, none-left, line-step}
 use borrow.Author.Needs.{needs}
 use Rattle.checks.proofs.cuts.first_cut.Statement.{statement}

@@ -9,8 +9,8 @@ use Rattle.lattice.proofs.Bounds.{points-small}
 use Rattle.lattice.proofs.Sites.{numbers-small}
 use Rattle.moving.specs.Block.{blockOf}
 use Rattle.checks.specs.inner.Faults.{crossingsAt, tableFault}
-use Rattle.checks.proofs.Points.{sited}
-use Rattle.checks.proofs.Lines.{line-stands, line-fits, asked-line}
+use Rattle.ground.proofs.Points.{sited}
+use Rattle.ground.proofs.Lines.{line-stands, line-fits, asked-line}
 use Rattle.checks.proofs.Table.{line-left, none-left, point-over, part-is}
 use borrow.Author.Needs.{needs}
 use Rattle.checks.proofs.cuts.line_search.Statement.{statement}

@@ -8,7 +8,7 @@ use lib.IntN.{pos}
 use lib.ListN.{getD}
 use borrow.Author.Count.{below-more}
 use Rattle.moving.specs.Label.{labelOf, opposed}
-use Rattle.checks.proofs.Labels.{opposed-handed}
+use Rattle.ground.proofs.Labels.{opposed-handed}
 use borrow.Author.Needs.{needs}
 use Rattle.checks.proofs.quiet.is_calm.Statement.{statement}
 use Rattle.checks.proofs.quiet.is_calm.Tie as tie

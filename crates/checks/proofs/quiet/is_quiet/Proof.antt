@@ -3,8 +3,8 @@ use native.Mathlib.Omega.{arith}
 use mathlib.Core.Path.{sym, subst}
 use lib.Dec.{T}
 use Rattle.lattice.proofs.Bounds.{points-small}
-use Rattle.checks.proofs.Points.{stands, sited}
-use Rattle.checks.proofs.Reach.{numbers-fit}
+use Rattle.ground.proofs.Points.{stands, sited}
+use Rattle.ground.proofs.Reach.{numbers-fit}
 use Rattle.checks.proofs.Still.{inner-in, quiet-fine}
 use borrow.Author.Needs.{needs}
 use Rattle.checks.proofs.quiet.is_quiet.Statement.{statement}

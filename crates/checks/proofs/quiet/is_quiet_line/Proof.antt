@@ -3,8 +3,8 @@ use native.Mathlib.Omega.{arith}
 use mathlib.Core.Path.{sym, subst}
 use lib.Dec.{T}
 use Rattle.lattice.proofs.Bounds.{points-small}
-use Rattle.checks.proofs.Points.{sited}
-use Rattle.checks.proofs.Lines.{line-stands}
+use Rattle.ground.proofs.Points.{sited}
+use Rattle.ground.proofs.Lines.{line-stands}
 use Rattle.checks.proofs.Level.{ranges-small, level-fine}
 use borrow.Author.Needs.{needs}
 use Rattle.checks.proofs.quiet.is_quiet_line.Statement.{statement}

@@ -4,7 +4,7 @@ use native.Mathlib.Omega.{arith}
 use mathlib.Core.Path.{_≡_, refl, sym, _∙_}
 use Rattle.basics.specs.Lists.{firstFrom}
 use Rattle.checks.specs.inner.Outside.{plusAt}
-use Rattle.checks.proofs.Labels.{plus-handed}
+use Rattle.ground.proofs.Labels.{plus-handed}
 use Rattle.checks.proofs.Steps.{search-hit, search-miss, search-end}
 use borrow.Author.Needs.{needs}
 use Rattle.checks.proofs.rim.first_plus.Statement.{statement}

@@ -4,11 +4,11 @@ use native.Mathlib.Omega.{arith}
 use mathlib.Core.Path.{_≡_, _∙_}
 use Rattle.basics.specs.Lists.{firstFrom, lowest}
 use Rattle.lattice.proofs.Bounds.{points-small}
-use Rattle.checks.specs.inner.Lines.{Line}
+use Rattle.ground.specs.inner.Lines.{Line}
 use Rattle.checks.specs.inner.Outside.{outside}
 use Rattle.checks.proofs.Steps.{search-all}
-use Rattle.checks.proofs.Points.{points-some}
-use Rattle.checks.proofs.Lines.{line-own, line-fits, line-self, line-on, line-first}
+use Rattle.ground.proofs.Points.{points-some}
+use Rattle.ground.proofs.Lines.{line-own, line-fits, line-self, line-on, line-first}
 use Rattle.checks.proofs.Outside.{line-hit, line-miss, lowest-rim, none-outside}
 use borrow.Author.Needs.{needs}
 use Rattle.checks.proofs.rim.first_rim.Statement.{statement}

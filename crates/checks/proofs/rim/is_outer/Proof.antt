@@ -9,8 +9,8 @@ use Rattle.lattice.specs.Axis.{along-y, along-z}
 use Rattle.lattice.specs.Counts.{grid}
 use Rattle.lattice.specs.Rim.{outermost}
 use Rattle.lattice.proofs.Sites.{odd-small, own-grid, site-small}
-use Rattle.checks.proofs.Points.{sited}
-use Rattle.checks.proofs.Lines.{line-stands}
+use Rattle.ground.proofs.Points.{sited}
+use Rattle.ground.proofs.Lines.{line-stands}
 use borrow.Author.Needs.{needs}
 use Rattle.checks.proofs.rim.is_outer.Statement.{statement}
 use Rattle.checks.proofs.rim.is_outer.Tie as tie

@@ -5,8 +5,8 @@ use mathlib.Core.Path.{_≡_, sym, ap, _∙_}
 use Rattle.basics.specs.Lists.{firstFrom}
 use Rattle.lattice.proofs.Bounds.{points-small}
 use Rattle.checks.specs.inner.Outside.{plusAt, outside}
-use Rattle.checks.proofs.Labels.{plus-handed}
-use Rattle.checks.proofs.Lines.{line-fits}
+use Rattle.ground.proofs.Labels.{plus-handed}
+use Rattle.ground.proofs.Lines.{line-fits}
 use Rattle.checks.proofs.Outside.{outer-line, inner-first, inner-last, inner-none}
 use borrow.Author.Needs.{needs}
 use Rattle.checks.proofs.rim.line_rim.Statement.{statement}

@@ -1,7 +1,7 @@
 -- At rest, moved, or with a byte that is no code. Assumes nothing.
 use native.Mathlib.Omega.{arith}
 use mathlib.Core.Path.{refl, _∙_}
-use Rattle.places.proofs.Box.{box-wider}
+use Rattle.ground.proofs.Box.{box-wider}
 use Rattle.places.proofs.Decoded.{site-rest, site-le}
 use Rattle.places.proofs.Answers.{rest-up, point-rests, point-moved, point-strange}
 use borrow.Author.Needs.{needs}

@@ -2,9 +2,9 @@
 use native.Mathlib.Omega.{arith}
 use mathlib.Core.Path.{sym, subst}
 use lib.Dec.{T}
-use Rattle.checks.proofs.Points.{sited}
-use Rattle.checks.proofs.Lines.{line-stands}
-use Rattle.warp.proofs.Starts.{start-small}
+use Rattle.ground.proofs.Points.{sited}
+use Rattle.ground.proofs.Lines.{line-stands}
+use Rattle.ground.proofs.FarEnds.{start-small}
 use Rattle.warp.proofs.Idle.{idle-line}
 use borrow.Author.Needs.{needs}
 use Rattle.warp.proofs.bytes.is_idle_line.Statement.{statement}

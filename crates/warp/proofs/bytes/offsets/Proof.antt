@@ -1,7 +1,8 @@
 -- Every offset fits, and the list is the one whose law is known. Assumes nothing.
 use native.Mathlib.Omega.{arith}
 use Rattle.lattice.proofs.Sites.{numbers-small}
-use Rattle.warp.proofs.Starts.{start-small, offsets-of}
+use Rattle.ground.proofs.FarEnds.{start-small}
+use Rattle.warp.proofs.Offsets.{offsets-of}
 use borrow.Author.Needs.{needs}
 use Rattle.warp.proofs.bytes.offsets.Statement.{statement}
 use Rattle.warp.proofs.bytes.offsets.Tie as tie

@@ -6,7 +6,7 @@ use lib.ListN.{getD}
 use Rattle.lattice.proofs.Edge.{neighbour-lt}
 use Rattle.moving.specs.Violation.{violates}
 use Rattle.moving.specs.Moving.{violatedAlong}
-use Rattle.warp.proofs.Sites.{site-lt, site-near}
+use Rattle.ground.proofs.Sites.{site-lt, site-near}
 use Rattle.warp.proofs.Codes.{violated-live}
 use Rattle.warp.proofs.Idle.{unviolated}
 use borrow.Author.Needs.{needs}

@@ -9,8 +9,8 @@ use Rattle.lattice.proofs.Bounds.{points-small}
 use Rattle.moving.specs.Block.{blockOf}
 use Rattle.moving.specs.Moving.{codes}
 use Rattle.filling.specs.Fill.{movedCount}
-use Rattle.checks.proofs.Points.{points-some}
-use Rattle.checks.proofs.Lines.{line-on, line-first}
+use Rattle.ground.proofs.Points.{points-some}
+use Rattle.ground.proofs.Lines.{line-on, line-first}
 use Rattle.warp.proofs.Codes.{Warped, warped-whole, counted-few}
 use Rattle.warp.proofs.Passed.{Passed, line-here, coded-here, fits, after, passed-idle, passed-walked, walked-few}
 use Rattle.warp.proofs.moves.warp.Statement.{statement}

@@ -11,10 +11,10 @@ use Rattle.lattice.proofs.Sites.{numbers-small}
 use Rattle.moving.specs.Block.{blockOf}
 use Rattle.moving.specs.Moving.{codes}
 use Rattle.filling.specs.Fill.{movedCount}
-use Rattle.checks.proofs.Points.{sited}
-use Rattle.checks.proofs.Lines.{line-stands, line-fits}
+use Rattle.ground.proofs.Points.{sited}
+use Rattle.ground.proofs.Lines.{line-stands, line-fits}
 use Rattle.warp.specs.inner.Quick.{Coded}
-use Rattle.warp.proofs.Sites.{along-sited, along-own}
+use Rattle.ground.proofs.Sites.{along-sited, along-own}
 use Rattle.warp.proofs.Codes.{Searching, search-on, search-ends, search-finds, at-point}
 use Rattle.warp.proofs.Codes.{Walked, walked-starts, walked-next, counted-few, count-move, count-stay}
 use Rattle.warp.proofs.Idle.{search-from}

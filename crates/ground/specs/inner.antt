@@ -1,0 +1,4 @@
+pub mod Signs
+pub mod Lines
+pub mod Strides
+pub mod Places

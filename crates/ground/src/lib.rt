@@ -1,0 +1,16 @@
+// The ground floor of the code: what the checks, moving, places and rows all stand on. Lines of
+// points along x, far ends by strides, whole ranges of a table, signs of samples, the violation test
+// and the six-volume.
+pub mod ranges;
+pub mod signs;
+pub mod strides;
+pub mod violation;
+pub mod volume;
+pub mod walk;
+
+// A place: three signed coordinates, 256 to a doubled coordinate.
+pub struct Place {
+    pub x: i64,
+    pub y: i64,
+    pub z: i64,
+}

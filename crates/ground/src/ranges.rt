@@ -1,0 +1,73 @@
+// Whole ranges of a table, tested at once: no test ends early, so that the compiler takes many
+// entries in one step. A range may go past the table's end: what is not there counts as zero.
+use crate::signs;
+ghost use mathlib.Core.Path.{_≡_};
+ghost use mathlib.Core.Bool.{true, false};
+ghost use Prim.Native.Nat.{ℕ, _<_, _≤_};
+ghost use lib.IntN.{pos};
+ghost use lib.ListN.{length, getD};
+ghost use Rattle.ground.specs.inner.Signs.{hasSign};
+
+fn lesser(a: usize, b: usize) -> usize
+    ensures { λ r. ⌜ (r ≤ a) × (r ≤ b) × ((k : ℕ) → r ≤ k → k < a → b ≤ k) ⌝ }
+{
+    if a < b { a } else { b }
+}
+
+// All bytes from one on and before another are zero: the highest is.
+pub fn is_blank(bytes: &[u8], from: usize, to: usize) -> bool
+    ensures { λ r. ⌜ (r ≡ true → (o : ℕ) → from ≤ o → o < to → getD (now (bytes .entry)) o 0 ≡ 0) ⌝ }
+{
+    let end = lesser(to, bytes.len());
+    let mut top: u8 = 0;
+    for o in from..end {
+        let byte = bytes[o];
+        if top < byte {
+            top = byte;
+        }
+    }
+    top == 0
+}
+
+// The highest sample from one on and before another, or 0 if none is above zero.
+fn highest(samples: &[i16], from: usize, to: usize) -> i16
+    requires { ⌜ length (now samples) ≤ 1000000 ⌝ }
+    ensures { λ r. ⌜ (hasSign true r ≡ false → (p : ℕ) → from ≤ p → p < to → hasSign true (getD (now (samples .entry)) p (pos 0)) ≡ false) ⌝ }
+{
+    let end = lesser(to, samples.len());
+    let mut most: i16 = 0;
+    for p in from..end {
+        let x = samples[p];
+        if most < x {
+            most = x;
+        }
+    }
+    most
+}
+
+// The lowest sample from one on and before another, or 0 if none is below zero.
+fn lowest(samples: &[i16], from: usize, to: usize) -> i16
+    requires { ⌜ length (now samples) ≤ 1000000 ⌝ }
+    ensures { λ r. ⌜ (hasSign false r ≡ false → (p : ℕ) → from ≤ p → p < to → hasSign false (getD (now (samples .entry)) p (pos 0)) ≡ false) ⌝ }
+{
+    let end = lesser(to, samples.len());
+    let mut least: i16 = 0;
+    for p in from..end {
+        let x = samples[p];
+        if x < least {
+            least = x;
+        }
+    }
+    least
+}
+
+// Some sample from one on and before another is above zero, or some is below.
+pub fn has_some(plus: bool, samples: &[i16], from: usize, to: usize) -> bool
+    requires { ⌜ length (now samples) ≤ 1000000 ⌝ }
+    ensures { λ r. ⌜ (r ≡ false → (p : ℕ) → from ≤ p → p < to → hasSign plus (getD (now (samples .entry)) p (pos 0)) ≡ false) ⌝ }
+{
+    if plus {
+        return signs::has_sign(plus, highest(samples, from, to));
+    }
+    signs::has_sign(plus, lowest(samples, from, to))
+}

@@ -1,0 +1,33 @@
+// Signs of samples.
+ghost use mathlib.Core.Path.{_≡_};
+ghost use Rattle.moving.specs.Label.{labelOf, isPlus, opposed};
+ghost use Rattle.ground.specs.inner.Signs.{hasSign};
+
+pub fn is_plus(a: i16) -> bool
+    ensures { λ r. ⌜ r ≡ isPlus (labelOf a) ⌝ }
+{
+    0 < a
+}
+
+// A sample is above zero, or below.
+pub fn has_sign(plus: bool, a: i16) -> bool
+    ensures { λ r. ⌜ r ≡ hasSign plus a ⌝ }
+{
+    if plus {
+        return 0 < a;
+    }
+    a < 0
+}
+
+// One sample is above zero and the other is below.
+pub fn opposite(a: i16, b: i16) -> bool
+    ensures { λ r. ⌜ r ≡ opposed (labelOf a) (labelOf b) ⌝ }
+{
+    if a < 0 {
+        return 0 < b;
+    }
+    if 0 < a {
+        return b < 0;
+    }
+    false
+}
