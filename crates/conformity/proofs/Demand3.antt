@@ -7,22 +7,38 @@ use mathlib.Core.Path.{_≡_, refl, sym, subst}
 use mathlib.Core.Logic.{_⊎_, inl, inr}
 use mathlib.Core.List.{List}
 use Rattle.lattice.specs.Counts.{points}
+use Rattle.lattice.specs.Direction.{directionOf}
 use Rattle.moving.specs.declared.Label.the-variants.{Zero}
-use Rattle.moving.specs.Block.{Block}
+use Rattle.moving.specs.Violation.{limit}
+use Rattle.moving.specs.Reading.{Reading}
 use Rattle.moving.specs.Moving.{stateOf}
-use Rattle.moving.proofs.Moved.{zero-label}
+use Rattle.moving.specs.Block.{Block, Bytes, readingOf}
+use Rattle.moving.proofs.Moved.{state-reached, reached-zero}
 use Rattle.stencil.specs.Tetrahedron.{Vertex}
 use Rattle.stencil.specs.Row.{Row, Third, faceAt, faceOf}
 use Rattle.geometry.specs.Place.{placeOf}
+use Rattle.filling.specs.Check.{Accepted}
 use Rattle.filling.specs.Mesh.{meshOf}
 use Rattle.filling.specs.Fill.{fill}
-use Rattle.filling.specs.Demand.{nthRow, rowsRead, FaceFits, shared, boundary, Conforms, OnSkin, a-cut, a-moved-point, a-zero-sample}
-use Rattle.filling.proofs.Accepted.{Accepted, passed-all, filled-accepted}
+use Rattle.filling.specs.Demand.{
+  nthRow,
+  rowsRead,
+  FaceFits,
+  shared,
+  boundary,
+  Conforms,
+  OnSkin,
+  a-cut,
+  a-moved-point,
+  a-zero-label,
+}
+use Rattle.filling.proofs.Accepted.{passed-all, filled-accepted}
+use Rattle.filling.proofs.Fits.{Fits, accepted-fits}
 use Rattle.filling.proofs.Written.{rows-read, state-written}
 use Rattle.faces.proofs.Faces.{faces}
 use Rattle.faces.proofs.RowIds.{RowId, a-point, an-edge, face-ids}
-use Rattle.conformity.proofs.Warp.{Bytes}
-use Rattle.conformity.proofs.Bridge.{finalLabel, finalPlace, edge-byte, sound, no-rim}
+use Rattle.volumes.proofs.Sound.{reach}
+use Rattle.conformity.proofs.Bridge.{limit-reach, finalLabel, finalPlace, edge-byte, sound, no-rim}
 use Rattle.conformity.proofs.Rows.{mesh-is, rows-positive}
 
 -- what the corners of a boundary face lie on, in other words
@@ -32,31 +48,40 @@ widened : {rows : List (Row ℕ)} {S S′ : ℕ → Type 0} {i : ℕ} {v : Verte
 widened h (shared j w l n o u) = shared j w l n o u
 widened h (boundary u k) = boundary u (λ t. h t (k t))
 
--- an id in a row that is a cut's or has the label zero lies on the skin
-on-skin : (b : Block) → Accepted b → (id : ℕ) → RowId (b .sizes) (finalLabel b) id
-    → (points (b .sizes) ≤ id) ⊎ ((id < points (b .sizes)) × (finalLabel b id ≡ Zero)) → OnSkin b id
-on-skin b h id r (inr z) = elim (zero-label b id (z .1)) [ inl n ↦ a-moved-point (z .0) n | inr e ↦ a-zero-sample (z .0) e ]
-on-skin b h id (a-point l n) (inl c) = absurd (omega arith)
-on-skin b h id (an-edge p d q l u to o e) (inl c) = a-cut p d q l u to (λ z. omega (arith, edge-byte b h p d q l u to o)) e
+module _ (m : Reading) (fits : Fits m) where
+  -- an id in a row that is a cut's or has the label zero lies on the skin
+  on-skin : (id : ℕ) → RowId (m .sizes) (finalLabel m (stateOf m)) id
+      → (points (m .sizes) ≤ id) ⊎ ((id < points (m .sizes)) × (finalLabel m (stateOf m) id ≡ Zero)) → OnSkin m id
+  on-skin id r (inr z) =
+      elim (reached-zero m (state-reached m) id (z .1)) [ inl n ↦ a-moved-point (z .0) n | inr e ↦ a-zero-label (z .0) e ]
+  on-skin id (a-point l n) (inl c) = absurd (omega arith)
+  on-skin id (an-edge p d q l u to o e) (inl c) = a-cut p d q l u to (λ z. omega (arith, edge-byte (stateOf m) fits p d q l u to o)) e
 
-pub accepted-conforms : (b : Block) → Bytes b → Accepted b → Conforms (meshOf b) (placeOf (b .sizes) (b .cuts) (stateOf b)) (OnSkin b)
-accepted-conforms b bytes h =
-    subst (λ (rows : List (Row ℕ)). Conforms rows (finalPlace b) (OnSkin b)) (sym (mesh-is b (sound b h bytes)))
-    (record {
-      faces = λ i l v.
-          widened (λ t. on-skin b h _ (face-ids (b .sizes) (finalLabel b) i l v t))
-          (faces (b .sizes) (finalLabel b) (no-rim b h) i l v);
-      volumes = rows-positive b (sound b h bytes);
-    })
+  -- limits of 63 and 127 are small enough
+  pub conforms : ((c : ℕ) → limit (m .rule) (directionOf c) ≤ reach c)
+      → Conforms (meshOf m) (placeOf (m .sizes) (m .cuts) (stateOf m)) (OnSkin m)
+  conforms small =
+      let label = finalLabel m (stateOf m) in
+      let is-sound = sound (stateOf m) fits small (state-reached m) in
+      subst (λ (rows : List (Row ℕ)). Conforms rows (finalPlace m (stateOf m)) (OnSkin m)) (sym (mesh-is is-sound))
+      (record {
+        faces = λ i l v.
+            widened (λ t. on-skin _ (face-ids (m .sizes) label i l v t)) (faces (m .sizes) label (no-rim (stateOf m) fits) i l v);
+        volumes = rows-positive is-sound;
+      })
 
-pub demand-3 : (b : Block) (state rows : List ℕ) → Bytes b → fill b state rows .answer .number ≡ 0
-    → Conforms (meshOf b) (placeOf (b .sizes) (b .cuts) (stateOf b)) (OnSkin b)
+pub accepted-conforms : (b : Block) → Bytes (b .cuts) → Accepted b
+    → Conforms (meshOf (readingOf b)) (placeOf (b .sizes) (b .cuts) (stateOf (readingOf b))) (OnSkin (readingOf b))
+accepted-conforms b bytes h = conforms (readingOf b) (accepted-fits b bytes h) limit-reach
+
+pub demand-3 : (b : Block) (state rows : List ℕ) → Bytes (b .cuts) → fill b state rows .answer .number ≡ 0
+    → Conforms (meshOf (readingOf b)) (placeOf (b .sizes) (b .cuts) (stateOf (readingOf b))) (OnSkin (readingOf b))
 demand-3 b state rows bytes e = accepted-conforms b bytes (filled-accepted b state rows e)
 
 -- the same of the rows as filling leaves them in the row table, T of them, with the points placed by the state table that it leaves
-pub demand-3-written : (b : Block) (state rows : List ℕ) → Bytes b → fill b state rows .answer .number ≡ 0
+pub demand-3-written : (b : Block) (state rows : List ℕ) → Bytes (b .cuts) → fill b state rows .answer .number ≡ 0
     → Conforms (rowsRead (fill b state rows .rows) (fill b state rows .answer .rows))
-    (placeOf (b .sizes) (b .cuts) (fill b state rows .state)) (OnSkin b)
+    (placeOf (b .sizes) (b .cuts) (fill b state rows .state)) (OnSkin (readingOf b))
 demand-3-written b state rows bytes e =
     let p = passed-all b state rows 0 (inl refl) e in
     rw (rows-read b state rows e, state-written b state rows (p .accepted) (p .state-long)) (demand-3 b state rows bytes e)
