@@ -16,17 +16,20 @@ use Rattle.basics.proofs.Test.{_&_, and-l, and-r, or-cases, every, every-use, T
 use Rattle.basics.proofs.Gather.{gather-part}
 use Rattle.lattice.specs.declared.Near.the-variants.{At}
 use Rattle.lattice.specs.Counts.{points}
-use Rattle.lattice.specs.Direction.{Code, isStart, directionOf, opposite}
-use Rattle.lattice.specs.Edge.{neighbour, byteAt}
+use Rattle.lattice.specs.Direction.{Code, asStart, isStart, directionOf, opposite}
+use Rattle.lattice.specs.Edge.{neighbour}
 use Rattle.lattice.proofs.Number.{number-lt}
 use Rattle.lattice.proofs.Codes.{direction-lt}
 use Rattle.lattice.proofs.Edge.{leads-near, near-number, neighbour-back}
 use Rattle.moving.specs.declared.Label.{Label}
-use Rattle.moving.specs.declared.Label.the-variants.{Minus, Zero, Plus}
-use Rattle.moving.specs.Block.{Block, cutByte}
-use Rattle.moving.specs.Label.{isPlus, isMinus, isZero, opposed}
-use Rattle.moving.specs.Moving.{labelBefore, labelAfter, stateOf}
-use Rattle.moving.proofs.Moved.{nonzero-still, label-still}
+use Rattle.moving.specs.Label.{opposed}
+use Rattle.moving.specs.Reading.{Reading, labelAfter}
+use Rattle.moving.specs.Moving.{outset, stateOf}
+use Rattle.moving.specs.Block.{Block, readingOf}
+use Rattle.moving.proofs.Labels.{opposed-sym, opposed-near, opposed-far}
+use Rattle.moving.proofs.Settled.{Reached}
+use Rattle.moving.proofs.Bytes.{nonzero-still, label-still}
+use Rattle.moving.proofs.Moved.{state-reached}
 use Rattle.stencil.specs.Tetrahedron.{Tetrahedron, Vertex, v0, v1, v2, v3, kind, corner, cornerNumber, tetrahedraOf}
 use Rattle.stencil.specs.Row.{Row, row, rowAt, swapped, mapRow}
 use Rattle.stencil.specs.Stencil.{Entry, between, rank, rowsFor}
@@ -34,13 +37,13 @@ use Rattle.stencil.specs.Id.{startOf, cutId, idOf}
 use Rattle.stencil.proofs.Valid.{Valid, corner-inside}
 use Rattle.stencil.proofs.Listed.{listed-valid}
 use Rattle.geometry.specs.Place.{Place, placeOf}
-use Rattle.filling.specs.Check.{crossesTo, cutFault}
-use Rattle.filling.specs.Mesh.{rowVolume, oriented, labelsIn, rowsIn, rowsWith, meshOf}
-use Rattle.filling.proofs.Accepted.{Accepted}
+use Rattle.filling.specs.Check.{Accepted}
+use Rattle.filling.specs.Mesh.{rowVolume, oriented, labelsIn, rowsIn, rowsOver, rowsWith, meshOf}
+use Rattle.filling.proofs.Fits.{Fits, accepted-fits}
 use Rattle.volumes.proofs.Between.{codeIn, between-code, between-leads}
 use Rattle.volumes.proofs.Built.{same, stands, fits, builtOf, built}
 use Rattle.volumes.proofs.BuiltTest.{rows-built}
-use Rattle.agree.proofs.Agree.{answerTo, standsAt, point-agrees, cut-agrees}
+use Rattle.agree.proofs.Agree.{answerTo, standsAt, Asked, point-agrees, cut-agrees}
 
 -- an entry of a row is a corner, or the cut between a plus and a minus corner
 built-stands : (l : Vertex → Label) (r : Row (Entry Vertex)) → T (built l r) → (v : Vertex) → T (stands l (rowAt r v))
@@ -49,17 +52,6 @@ built-stands l (row a b c d) t v0 = and-l _ _ (and-l _ _ (and-r _ _ (and-l _ _ t
 built-stands l (row a b c d) t v1 = and-l _ _ (and-l _ _ (and-r _ _ (and-r _ _ (and-l _ _ t))))
 built-stands l (row a b c d) t v2 = and-l _ _ (and-l _ _ (and-r _ _ (and-r _ _ (and-r _ _ (and-l _ _ t)))))
 built-stands l (row a b c d) t v3 = and-l _ _ (and-r _ _ (and-r _ _ (and-r _ _ (and-r _ _ (and-l _ _ t)))))
-
--- labels that are opposed, seen from either side, are not zero
-opposed-both : (l m : Label) → T (opposed l m) → T (opposed m l) × T (not (isZero l)) × T (not (isZero m))
-unfolding opposed isPlus isMinus isZero
-opposed-both Minus Minus t = absurd t
-opposed-both Minus Zero t = absurd t
-opposed-both Minus Plus t = (tt, tt, tt)
-opposed-both Zero m t = absurd t
-opposed-both Plus Minus t = (tt, tt, tt)
-opposed-both Plus Zero t = absurd t
-opposed-both Plus Plus t = absurd t
 
 -- the code of an edge at its start is its direction's
 start-code : (c : ℕ) → Code c → isStart c ≡ true → c ≡ directionOf c + 1
@@ -70,54 +62,43 @@ end-code : (c : ℕ) → Code c → isStart c ≡ false → opposite c ≡ direc
 unfolding opposite isStart directionOf
 end-code c g e = rw e (omega (arith, leb-false c 7 e, g .high))
 
-module _ (b : Block) (h : Accepted b) where
+module _ (m : Reading) (asked : Asked m) (fits : Fits m) (codes : List ℕ) (reached : Reached m (outset m) codes) where
   abbrev final : ℕ → Label
-  final = labelAfter b (stateOf b)
+  final = labelAfter (m .label) codes
 
-  -- an edge between two labels that are opposed after moving has a byte
-  cut-byte : (p d q : ℕ) → p < points (b .sizes) → d < 7 → neighbour (b .sizes) p (d + 1) ≡ At q
-      → T (opposed (labelBefore b p) (labelBefore b q)) → cutByte b (byteAt p d) ≡ 0 → ⊥
-  unfolding cutFault crossesTo
-  cut-byte p d q l u e t z = omega (arith, gap, h .cuts-fine (byteAt p d) (omega arith))
-    where
-      start : byteAt p d / 7 ≡ p
-      start = omega arith
-
-      way : byteAt p d % 7 ≡ d
-      way = omega arith
-
-      gap : cutFault b (byteAt p d) ≡ 6
-      gap = rw (start, way, e, T-true (opposed (labelBefore b p) (labelBefore b q)) t, eq-eqb _ _ z) refl
-
-  edge-agrees : (p d q : ℕ) → p < points (b .sizes) → d < 7 → neighbour (b .sizes) p (d + 1) ≡ At q → T (opposed (final p) (final q))
-      → answerTo b (cutId (b .sizes) p d) ≡ standsAt b (cutId (b .sizes) p d)
+  -- an edge between two labels that are opposed after moving: neither end moved, and there is a byte
+  edge-agrees : (p d q : ℕ) → p < points (m .sizes) → d < 7 → neighbour (m .sizes) p (asStart d) ≡ At q
+      → T (opposed (final p) (final q))
+      → answerTo m codes (cutId (m .sizes) p d) ≡ standsAt m codes (cutId (m .sizes) p d)
   edge-agrees p d q l u e t =
-      cut-agrees b h p d q l u e (cut-byte p d q l u e (rw (label-still b (stateOf b) p x, label-still b (stateOf b) q y) at t)) x y
+      let before = rw (label-still (m .label) codes p x, label-still (m .label) codes q y) at t in
+      let some = fits .cut p d q l u e before in
+      cut-agrees m asked codes reached p d q l u e (λ z. omega arith) x y
     where
-      x : getD (stateOf b) p 0 ≡ 0
-      x = nonzero-still b (stateOf b) p (opposed-both _ _ t .1)
+      x : getD codes p 0 ≡ 0
+      x = nonzero-still (m .label) codes p (opposed-near _ _ t)
 
-      y : getD (stateOf b) q 0 ≡ 0
-      y = nonzero-still b (stateOf b) q (opposed-both _ _ t .2)
+      y : getD codes q 0 ≡ 0
+      y = nonzero-still (m .label) codes q (opposed-far _ _ t)
 
-  module _ (t : Tetrahedron) (valid : Valid (b .sizes) t) where
+  module _ (t : Tetrahedron) (valid : Valid (m .sizes) t) where
     abbrev at : Vertex → ℕ
-    at = cornerNumber (b .sizes) t
+    at = cornerNumber (m .sizes) t
 
-    at-lt : (v : Vertex) → at v < points (b .sizes)
+    at-lt : (v : Vertex) → at v < points (m .sizes)
     unfolding cornerNumber
-    at-lt v = number-lt (b .sizes) (kind v) (corner t v) (corner-inside (b .sizes) t valid v)
+    at-lt v = number-lt (m .sizes) (kind v) (corner t v) (corner-inside (m .sizes) t valid v)
 
-    joined : (u v : Vertex) → rank u < rank v → neighbour (b .sizes) (at u) (codeIn t u v) ≡ At (at v)
+    joined : (u v : Vertex) → rank u < rank v → neighbour (m .sizes) (at u) (codeIn t u v) ≡ At (at v)
     unfolding cornerNumber
     joined u v l =
-        near-number (b .sizes) (kind u) (corner t u) (corner-inside (b .sizes) t valid u) (codeIn t u v)
-        ∙ leads-near (b .sizes) (kind u) (corner t u) (codeIn t u v) (kind v) (corner t v) (corner-inside (b .sizes) t valid u)
-        (corner-inside (b .sizes) t valid v) (between-code t u v l) (between-leads t u v l)
+        near-number (m .sizes) (kind u) (corner t u) (corner-inside (m .sizes) t valid u) (codeIn t u v)
+        ∙ leads-near (m .sizes) (kind u) (corner t u) (codeIn t u v) (kind v) (corner t v) (corner-inside (m .sizes) t valid u)
+        (corner-inside (m .sizes) t valid v) (between-code t u v l) (between-leads t u v l)
 
     cut-corner : (u v : Vertex) → rank u < rank v → T (opposed (final (at u)) (final (at v)))
-        → answerTo b (cutId (b .sizes) (at (startOf (codeIn t u v) u v)) (directionOf (codeIn t u v)))
-        ≡ standsAt b (cutId (b .sizes) (at (startOf (codeIn t u v) u v)) (directionOf (codeIn t u v)))
+        → answerTo m codes (cutId (m .sizes) (at (startOf (codeIn t u v) u v)) (directionOf (codeIn t u v)))
+        ≡ standsAt m codes (cutId (m .sizes) (at (startOf (codeIn t u v) u v)) (directionOf (codeIn t u v)))
     cut-corner u v l o = go (isStart c) refl
       where
         c : ℕ
@@ -127,23 +108,23 @@ module _ (b : Block) (h : Accepted b) where
         g = between-code t u v l
 
         go : (z : Bool) → isStart c ≡ z
-            → answerTo b (cutId (b .sizes) (at (if z then u else v)) (directionOf c))
-            ≡ standsAt b (cutId (b .sizes) (at (if z then u else v)) (directionOf c))
+            → answerTo m codes (cutId (m .sizes) (at (if z then u else v)) (directionOf c))
+            ≡ standsAt m codes (cutId (m .sizes) (at (if z then u else v)) (directionOf c))
         go true e =
             edge-agrees (at u) (directionOf c) (at v) (at-lt u) (direction-lt c g)
-            (ap (λ (n : ℕ). neighbour (b .sizes) (at u) n) (sym (start-code c g e)) ∙ joined u v l) o
+            (ap (λ (n : ℕ). neighbour (m .sizes) (at u) n) (sym (start-code c g e)) ∙ joined u v l) o
         go false e =
             edge-agrees (at v) (directionOf c) (at u) (at-lt v) (direction-lt c g)
-            (ap (λ (n : ℕ). neighbour (b .sizes) (at v) n) (sym (end-code c g e))
-            ∙ neighbour-back (b .sizes) (at u) c (at v) (at-lt u) g (joined u v l))
-            (opposed-both _ _ o .0)
+            (ap (λ (n : ℕ). neighbour (m .sizes) (at v) n) (sym (end-code c g e))
+            ∙ neighbour-back (m .sizes) (at u) c (at v) (at-lt u) g (joined u v l))
+            (opposed-sym _ _ o)
 
-    entry-agrees : (x : Entry Vertex) → T (stands (labelsIn b (stateOf b) t) x)
-        → answerTo b (idOf (b .sizes) t x) ≡ standsAt b (idOf (b .sizes) t x)
+    entry-agrees : (x : Entry Vertex) → T (stands (labelsIn (m .sizes) final t) x)
+        → answerTo m codes (idOf (m .sizes) t x) ≡ standsAt m codes (idOf (m .sizes) t x)
     unfolding stands idOf
     entry-agrees (between u v) s =
         elim (or-cases (same u v) (ltb (rank u) (rank v) & opposed (final (at u)) (final (at v))) s) [
-          | inl e ↦ rw (T-true (same u v) e) (point-agrees b h (at u) (at-lt u))
+          | inl e ↦ rw (T-true (same u v) e) (point-agrees m asked codes reached (at u) (at-lt u))
           | inr w ↦ (
               let l = ltb→lt (rank u) (rank v) (and-l _ _ w) in
               rw (ne-eqb (rank u) (rank v) (λ e. omega (arith, l))) (cut-corner u v l (and-r _ _ w)))
@@ -173,16 +154,26 @@ map-row-at f (row a b c d) v2 = refl
 map-row-at f (row a b c d) v3 = refl
 
 -- the theorem
-pub row-agrees : (b : Block) → Accepted b → (r : Row ℕ) → Member r (meshOf b) → (v : Vertex) → answerTo b (rowAt r v) ≡ standsAt b (rowAt r v)
-unfolding rowsWith rowsIn
-row-agrees b h r m v =
-    let place = placeOf (b .sizes) (b .cuts) (stateOf b) in
-    let (t, listed, inside) = gather-part (rowsIn b (stateOf b)) (tetrahedraOf (b .sizes)) m in
-    let labels = labelsIn b (stateOf b) t in
-    let ids = idOf (b .sizes) t in
+pub row-agrees : (m : Reading) → Asked m → Fits m → (codes : List ℕ) → Reached m (outset m) codes
+    → (r : Row ℕ) → Member r (rowsWith m codes) → (v : Vertex) → answerTo m codes (rowAt r v) ≡ standsAt m codes (rowAt r v)
+unfolding rowsOver rowsIn
+row-agrees m asked fits codes reached r member v =
+    let place = placeOf (m .sizes) (m .cuts) codes in
+    let final = labelAfter (m .label) codes in
+    let (t, listed, inside) = gather-part (rowsIn (m .sizes) final place) (tetrahedraOf (m .sizes)) member in
+    let labels = labelsIn (m .sizes) final t in
+    let ids = idOf (m .sizes) t in
     let (x, mx, ex) = mapped (oriented place) _ inside in
     let (y, my, ey) = mapped (mapRow ids) (rowsFor labels) mx in
     let (w, ew) = oriented-at place x v in
     let is = ap (λ (z : Row ℕ). rowAt z v) ex ∙ ew ∙ ap (λ (z : Row ℕ). rowAt z w) ey ∙ map-row-at ids y w in
     let stand = built-stands labels y (every-use (built labels) (rowsFor labels) (rows-built labels) my) w in
-    rw is (entry-agrees b h t (listed-valid (b .sizes) t listed) (rowAt y w) stand)
+    rw is (entry-agrees m asked fits codes reached t (listed-valid (m .sizes) t listed) (rowAt y w) stand)
+
+-- after filling an accepted block
+pub accepted-agrees : (b : Block) → Accepted b → (r : Row ℕ) → Member r (meshOf (readingOf b)) → (v : Vertex)
+    → answerTo (readingOf b) (stateOf (readingOf b)) (rowAt r v) ≡ standsAt (readingOf b) (stateOf (readingOf b)) (rowAt r v)
+accepted-agrees b h =
+    let m = readingOf b in
+    let asked : Asked m = record { sized = h .tabled .sized; cuts-long = h .tabled .cuts-long; rule-is = refl } in
+    row-agrees m asked (accepted-fits b h) (stateOf m) (state-reached m)

@@ -29,6 +29,7 @@ use Rattle.moving.specs.Label.{isPlus, isZero, opposed}
 use Rattle.moving.specs.Violation.{rule1, limit}
 use Rattle.moving.specs.Reading.{Reading, isMove, labelAfter}
 use Rattle.moving.specs.Moving.{outset}
+use Rattle.moving.specs.Block.{Bytes}
 use Rattle.moving.proofs.Labels.{opposed-near, opposed-far}
 use Rattle.moving.proofs.Settled.{NonZero, Reached}
 use Rattle.moving.proofs.Bytes.{zero-rests, nonzero-still, label-still}
@@ -84,7 +85,8 @@ module _ {m : Reading} (codes : List ℕ) (fits : Fits m) where
       plus : T (isPlus (m .label p))
       plus = rw (sym (unchanged p (rw e tt)) ∙ e) tt
 
-  module _ (small : (c : ℕ) → limit (m .rule) (directionOf c) ≤ reach c) (reached : Reached m (outset m) codes) where
+  module _ (bytes : Bytes (m .cuts)) (small : (c : ℕ) → limit (m .rule) (directionOf c) ≤ reach c)
+      (reached : Reached m (outset m) codes) where
     module _ (k : Kind) (i : Axis → ℕ) (inside : Inside (m .sizes) k i) where
       abbrev p : ℕ
       p = number (m .sizes) k i
@@ -115,7 +117,7 @@ module _ {m : Reading} (codes : List ℕ) (fits : Fits m) where
           go true e =
               let moved = true-T _ e in
               let v = reached-move m reached p moved in
-              let w = moved-within m k i inside (fits .bytes) (outset m) codes (v .0) moved (v .1) in
+              let w = moved-within m k i inside bytes (outset m) codes (v .0) moved (v .1) in
               record {
                 c = getD codes p 0;
                 code = w .code;
@@ -155,7 +157,7 @@ module _ {m : Reading} (codes : List ℕ) (fits : Fits m) where
           still = λ k i x t. standing k i x (zero-rests _ (nonzero-still (m .label) codes (number (m .sizes) k i) t));
           bytes = λ k l i j d x y u e t. (
             edge-byte (number (m .sizes) k i) d (number (m .sizes) l j) (number-lt (m .sizes) k i x) u (edge-near k l i j d x y u e) t,
-            fits .bytes (byteAt (number (m .sizes) k i) d),
+            bytes (byteAt (number (m .sizes) k i) d),
           );
           cut-places = λ k i d x u. cut-place k i x d u;
         }

@@ -58,11 +58,11 @@ module _ (m : Reading) (fits : Fits m) where
   on-skin id (an-edge p d q l u to o e) (inl c) = a-cut p d q l u to (λ z. omega (arith, edge-byte (stateOf m) fits p d q l u to o)) e
 
   -- limits of 63 and 127 are small enough
-  pub conforms : ((c : ℕ) → limit (m .rule) (directionOf c) ≤ reach c)
+  pub conforms : Bytes (m .cuts) → ((c : ℕ) → limit (m .rule) (directionOf c) ≤ reach c)
       → Conforms (meshOf m) (placeOf (m .sizes) (m .cuts) (stateOf m)) (OnSkin m)
-  conforms small =
+  conforms bytes small =
       let label = finalLabel m (stateOf m) in
-      let is-sound = sound (stateOf m) fits small (state-reached m) in
+      let is-sound = sound (stateOf m) fits bytes small (state-reached m) in
       subst (λ (rows : List (Row ℕ)). Conforms rows (finalPlace m (stateOf m)) (OnSkin m)) (sym (mesh-is is-sound))
       (record {
         faces = λ i l v.
@@ -72,7 +72,7 @@ module _ (m : Reading) (fits : Fits m) where
 
 pub accepted-conforms : (b : Block) → Bytes (b .cuts) → Accepted b
     → Conforms (meshOf (readingOf b)) (placeOf (b .sizes) (b .cuts) (stateOf (readingOf b))) (OnSkin (readingOf b))
-accepted-conforms b bytes h = conforms (readingOf b) (accepted-fits b bytes h) limit-reach
+accepted-conforms b bytes h = conforms (readingOf b) (accepted-fits b h) bytes limit-reach
 
 pub demand-3 : (b : Block) (state rows : List ℕ) → Bytes (b .cuts) → fill b state rows .answer .number ≡ 0
     → Conforms (meshOf (readingOf b)) (placeOf (b .sizes) (b .cuts) (stateOf (readingOf b))) (OnSkin (readingOf b))

@@ -22,6 +22,6 @@ pub mesh-ids : (b : Block) → Bytes (b .cuts) → Accepted b → (i : ℕ) → 
 mesh-ids b bytes h =
     let m = readingOf b in
     let label = finalLabel m (stateOf m) in
-    let is-sound = sound (stateOf m) (accepted-fits b bytes h) limit-reach (state-reached m) in
+    let is-sound = sound (stateOf m) (accepted-fits b h) bytes limit-reach (state-reached m) in
     subst (λ (rows : List (Row ℕ)). (i : ℕ) → i < length rows → (v : Vertex) → RowId (b .sizes) label (rowAt (nthRow rows i) v))
     (sym (mesh-is is-sound)) (row-ids (b .sizes) label)

@@ -16,21 +16,19 @@ use Rattle.lattice.specs.Rim.{rim}
 use Rattle.moving.specs.declared.Label.{Label}
 use Rattle.moving.specs.Label.{labels, isPlus, opposed}
 use Rattle.moving.specs.Reading.{Reading}
-use Rattle.moving.specs.Block.{Block, Bytes, readingOf}
+use Rattle.moving.specs.Block.{Block, readingOf}
 use Rattle.filling.specs.Check.{rimFault, crossesTo, crosses, cutFault, Accepted}
 
--- cut bytes are bytes; no rim point is plus; an edge between a plus and a minus point has a byte
+-- no rim point is plus; an edge between a plus and a minus point has a byte
 pub record Fits (m : Reading) : Type 0 where
-  pub bytes : Bytes (m .cuts)
   pub no-plus : (p : ℕ) → p < points (m .sizes) → T (rim (m .sizes) p) → T (isPlus (m .label p)) → ⊥
   pub cut : (p d q : ℕ) → p < points (m .sizes) → d < 7 → neighbour (m .sizes) p (asStart d) ≡ At q
       → T (opposed (m .label p) (m .label q)) → 0 < getD (m .cuts) (byteAt p d) 0
 
-pub accepted-fits : (b : Block) → Bytes (b .cuts) → Accepted b → Fits (readingOf b)
+pub accepted-fits : (b : Block) → Accepted b → Fits (readingOf b)
 unfolding rimFault cutFault crossesTo
-accepted-fits b bytes h =
+accepted-fits b h =
     record {
-      bytes = bytes;
       no-plus = λ p l t u. false-F (rimFault (b .sizes) label p) (h .rim-fine p l) (&&-i (rim (b .sizes) p) (isPlus (label p)) t u);
       cut = some-byte;
     }
