@@ -1,8 +1,8 @@
 // Points with nothing to find: no edge crosses and all seven bytes are zero. Most points are so, and
 // most lines of points.
 use ground::ranges;
-use ground::strides;
 use ground::signs;
+use ground::strides;
 use ground::walk;
 use lattice::Site;
 use lattice::Sizes;

@@ -2,7 +2,7 @@
 use Prim.Native.Nat.{zero, suc, _^_, _<_}
 use native.Mathlib.Omega.{arith}
 use mathlib.Core.Path.{_≡_, refl, sym, ap, subst, _∙_}
-use mathlib.Core.Bool.{Bool, true, false}
+use mathlib.Core.Bool.{Bool, true, false, not}
 use lib.Dec.{T}
 use lib.IntN.{ℤ, pos, negsuc}
 use lib.Signed.{mag, ltZ}
@@ -12,7 +12,7 @@ use mir.Val.{ofZ, toZ, SFits}
 use mir.ValLaws.{toZ-ofZ}
 use Rattle.moving.specs.declared.Label.{Label}
 use Rattle.moving.specs.declared.Label.the-variants.{Minus, Zero, Plus}
-use Rattle.moving.specs.Label.{labelOf, isPlus, isMinus, opposed}
+use Rattle.moving.specs.Label.{labelOf, isPlus, isZero, isMinus, opposed}
 use Rattle.ground.specs.inner.Signs.{hasSign}
 
 above : (x : ℤ) → ltZ (pos 0) x ≡ isPlus (labelOf x)
@@ -50,6 +50,19 @@ sign-handed plus x h = ap (hasSign plus) (handed x h)
 
 false-true : {A : Type 0} → _≡_ {A = Bool} false true → A
 false-true e = absurd (subst T (sym e) tt)
+
+-- a label is zero where it is neither plus nor minus
+pub zero-plus : (l : Label) → isPlus l ≡ true → false ≡ isZero l
+unfolding isPlus isZero
+zero-plus Minus e = false-true e
+zero-plus Zero e = false-true e
+zero-plus Plus e = refl
+
+pub zero-other : (l : Label) → isPlus l ≡ false → not (isMinus l) ≡ isZero l
+unfolding isPlus isMinus isZero
+zero-other Minus e = refl
+zero-other Zero e = refl
+zero-other Plus e = false-true (sym e)
 
 pub opposed-minus : (l m : Label) → isMinus l ≡ true → opposed l m ≡ isPlus m
 unfolding isMinus opposed

@@ -1,12 +1,21 @@
-// Signs of samples.
+// Signs of samples: the one place where the code makes a label of a sample.
 ghost use mathlib.Core.Path.{_≡_};
-ghost use Rattle.moving.specs.Label.{labelOf, isPlus, opposed};
+ghost use Rattle.moving.specs.Label.{labelOf, isPlus, isZero, opposed};
 ghost use Rattle.ground.specs.inner.Signs.{hasSign};
 
 pub fn is_plus(a: i16) -> bool
     ensures { λ r. ⌜ r ≡ isPlus (labelOf a) ⌝ }
 {
     0 < a
+}
+
+pub fn is_zero(a: i16) -> bool
+    ensures { λ r. ⌜ r ≡ isZero (labelOf a) ⌝ }
+{
+    if 0 < a {
+        return false;
+    }
+    !(a < 0)
 }
 
 // A sample is above zero, or below.

@@ -1,13 +1,13 @@
 // The place call: where the corner of a row with a given id stands.
-use ground::Place;
 use crate::points;
 use filling::Placed;
+use ground::Place;
+use ground::violation;
 use lattice::Near;
 use lattice::Sizes;
 use lattice::counts;
 use lattice::edges;
 use lattice::numbers;
-use ground::violation;
 ghost use mathlib.Core.Path.{_≡_};
 ghost use Prim.Native.Nat.{_*_, _<_};
 ghost use lib.ListN.{length};

@@ -1,5 +1,6 @@
-pub mod Signs
-pub mod Codes
+pub mod Counted
+pub mod Live
+pub mod Searching
 pub mod Offsets
-pub mod Idle
-pub mod Passed
+pub mod Quiet
+pub mod Turning

@@ -1,5 +1,6 @@
 // Which points move, and by which code.
 use crate::bytes;
+use ground::signs;
 use ground::violation;
 use ground::walk;
 use lattice::Near;
@@ -9,51 +10,43 @@ use lattice::counts;
 use lattice::edges;
 use lattice::numbers;
 ghost use mathlib.Core.Path.{_≡_};
-ghost use mathlib.Core.Bool.{true};
-ghost use mathlib.Core.List.{List};
 ghost use Prim.Native.Nat.{ℕ, _+_, _<_, _≤_};
-ghost use lib.ListN.{length};
-ghost use Rattle.lattice.specs.declared.Sizes.{Sizes};
+ghost use lib.ListN.{length, replicate};
 ghost use Rattle.lattice.specs.declared.Near.the-variants.{At};
 ghost use Rattle.lattice.specs.Axis.{along-x};
 ghost use Rattle.lattice.specs.Counts.{grid, points};
 ghost use Rattle.lattice.specs.Direction.{Code};
 ghost use Rattle.lattice.specs.Edge.{near, edgeByte};
 ghost use Rattle.lattice.specs.inner.Site.{Sited, index};
-ghost use Rattle.moving.specs.Block.{Block, blockOf, Tabled};
-ghost use Rattle.moving.specs.Label.{isZero};
-ghost use Rattle.moving.specs.Moving.{labelAfter, live, violatedBy, codes, stateOf};
+ghost use Rattle.moving.specs.Label.{labels, isZero};
+ghost use Rattle.moving.specs.Reading.{labelAfter, live, violatedBy};
+ghost use Rattle.moving.specs.Moving.{stateAt, stateOf};
+ghost use Rattle.moving.specs.Block.{blockOf, readingOf, Tabled};
 ghost use Rattle.filling.specs.Fill.{movedCount};
 ghost use Rattle.ground.specs.inner.Lines.{Line};
-ghost use Rattle.warp.specs.inner.Quick.{Spared, Idle, Coded};
+ghost use Rattle.warp.specs.inner.Quick.{Spared};
 
-// A point's label is zero: its sample is, or it is among the points done and has moved. Sizes and
-// cuts do not enter.
-fn is_still(samples: &[i16], done: &[u8], p: usize) -> bool
-    requires { ⌜ p < length (now samples) ⌝ }
-    ensures { λ r. ⌜ ((s : Sizes) (cuts : List ℕ) → r ≡ isZero (labelAfter (blockOf s (now (samples .entry)) cuts) (now (done .entry)) p)) ⌝ }
+// A point's label is zero: it has moved, or its sample is zero.
+fn is_faded(samples: &[i16], state: &[u8], p: usize) -> bool
+    requires { ⌜ (p < length (now samples)) × (p < length (now state)) ⌝ }
+    ensures { λ r. ⌜ r ≡ isZero (labelAfter (labels (now (samples .entry))) (now (state .entry)) p) ⌝ }
 {
-    if samples[p] == 0 {
+    if state[p] != 0 {
         return true;
     }
-    if p < done.len() {
-        return done[p] != 0;
-    }
-    false
+    signs::is_zero(samples[p])
 }
 
-// A cut between p and q is live: neither label is zero. Sizes and cuts do not enter.
-fn is_live(samples: &[i16], done: &[u8], p: usize, q: usize) -> bool
-    requires { ⌜ (p < length (now samples)) × (q < length (now samples)) ⌝ }
-    ensures { λ r. ⌜ ((s : Sizes) (cuts : List ℕ) → r ≡ live (blockOf s (now (samples .entry)) cuts) (now (done .entry)) p q) ⌝ }
+// A cut between p and q is live: neither label is zero.
+fn is_live(samples: &[i16], state: &[u8], p: usize, q: usize) -> bool
+    requires { ⌜ (p < length (now samples)) × (p < length (now state)) ⌝ }
+    requires { ⌜ (q < length (now samples)) × (q < length (now state)) ⌝ }
+    ensures { λ r. ⌜ r ≡ live (labels (now (samples .entry))) (now (state .entry)) p q ⌝ }
 {
-    if is_still(samples, done, p) {
+    if is_faded(samples, state, p) {
         return false;
     }
-    if is_still(samples, done, q) {
-        return false;
-    }
-    true
+    !is_faded(samples, state, q)
 }
 
 // The edge by a code exists, its cut is live and violates the point. The byte is asked first: then few
@@ -62,23 +55,25 @@ fn is_violated(
     s: Sizes,
     samples: &[i16],
     cuts: &[u8],
-    done: &[u8],
+    state: &[u8],
     q: Site,
     code: usize,
     at: usize,
 ) -> bool
     requires { ⌜ Tabled (blockOf s (now samples) (now cuts)) ⌝ }
+    requires { ⌜ length (now state) ≡ points s ⌝ }
     requires { ⌜ Code code ⌝ }
     requires { ⌜ Sited s q ⌝ }
     requires { ⌜ ((e : ℕ) → near s (q .kind) (index q) code ≡ At e → at ≡ edgeByte (q .own) code e) ⌝ }
-    ensures { λ r. ⌜ r ≡ violatedBy (blockOf s (now (samples .entry)) (now (cuts .entry))) (now (done .entry)) (q .own) code ⌝ }
+    ensures { λ r. ⌜ r ≡ violatedBy (readingOf (blockOf s (now (samples .entry)) (now (cuts .entry))))
+        (now (state .entry)) (q .own) code ⌝ }
 {
     let t = bytes::cut_at(cuts, at);
     if violation::violates(code, t) {
         let far = edges::neighbour(s, q, code);
         match far {
             Near::Nothing => false,
-            Near::At(e) => is_live(samples, done, q.own, e),
+            Near::At(e) => is_live(samples, state, q.own, e),
         }
     } else {
         false
@@ -101,15 +96,15 @@ fn first_near(cuts: &[u8], at: [usize; 14]) -> u8
     first as u8
 }
 
-// The codes of a line of points, where the codes before it stand in the table; the search of a point
-// stops at the first code that violates, and passes over those whose bytes do not. The answer counts
-// the points that move.
+// The points of a line take their turns; the search of a point stops at the first code that
+// violates, and passes over those whose bytes do not. The answer counts the points that move.
 fn warp_line(s: Sizes, samples: &[i16], cuts: &[u8], state: &mut [u8], q: Site) -> usize
     requires { ⌜ Tabled (blockOf s (now samples) (now cuts)) ⌝ }
     requires { ⌜ Line s (q .own) q ⌝ }
-    requires { ⌜ Coded (blockOf s (now samples) (now cuts)) (q .own) (now state) ⌝ }
-    ensures { λ r. ⌜ Coded (blockOf s (now (samples .entry)) (now (cuts .entry))) (q .own + grid s (q .kind) along-x) (now (state .exit)) ⌝ }
-    ensures { λ r. ⌜ r + movedCount (codes (blockOf s (now (samples .entry)) (now (cuts .entry))) (q .own)) ≡ movedCount (codes (blockOf s (now (samples .entry)) (now (cuts .entry))) (q .own + grid s (q .kind) along-x)) ⌝ }
+    requires { ⌜ now state ≡ stateAt (readingOf (blockOf s (now samples) (now cuts))) (q .own) ⌝ }
+    ensures { λ r. ⌜ now (state .exit)
+        ≡ stateAt (readingOf (blockOf s (now (samples .entry)) (now (cuts .entry)))) (q .own + grid s (q .kind) along-x) ⌝ }
+    ensures { λ r. ⌜ r + movedCount (now (state .entry)) ≡ movedCount (now (state .exit)) ⌝ }
 {
     let kind = q.kind;
     let own = q.own;
@@ -125,50 +120,47 @@ fn warp_line(s: Sizes, samples: &[i16], cuts: &[u8], state: &mut [u8], q: Site) 
                 break 'search 0;
             }
             let c = code as usize;
-            if is_violated(s, samples, cuts, &state[..p], here, c, at[c - 1]) {
+            if is_violated(s, samples, cuts, state, here, c, at[c - 1]) {
                 break 'search code;
             }
             code += 1;
         };
-        state[p] = found;
         if found != 0 {
+            state[p] = found;
             moved += 1;
         }
     }
     moved
 }
 
-// The codes of points that do not move.
-fn rest(state: &mut [u8], from: usize, to: usize)
-    requires { ⌜ (from ≤ to) × (to ≤ length (now state)) ⌝ }
-    ensures { λ r. ⌜ ((b : Block) → Coded b from (now (state .entry)) → ((p : ℕ) → from ≤ p → p < to → Idle b p) → Coded b to (now (state .exit))) ⌝ }
+// The table at the outset: no point has moved.
+fn clear(state: &mut [u8])
+    ensures { λ _. ⌜ now (state .exit) ≡ replicate (length (now (state .entry))) 0 ⌝ }
 {
-    for p in from..to {
+    for p in 0..state.len() {
         state[p] = 0;
     }
 }
 
-// Points are taken once each, in ascending number, a line at a time: the search of a point sees the
-// codes of those before it. Most lines are far from any cut. The answer counts the points that move.
+// Points are taken once each, in ascending number, a line at a time, and move in place. Most lines
+// are far from any cut. The answer counts the points that move.
 pub fn warp(s: Sizes, samples: &[i16], cuts: &[u8], state: &mut [u8]) -> usize
     requires { ⌜ Tabled (blockOf s (now samples) (now cuts)) ⌝ }
     requires { ⌜ length (now state) ≡ points s ⌝ }
-    ensures { λ r. ⌜ now (state .exit) ≡ stateOf (blockOf s (now (samples .entry)) (now (cuts .entry))) ⌝ }
-    ensures { λ r. ⌜ r ≡ movedCount (stateOf (blockOf s (now (samples .entry)) (now (cuts .entry)))) ⌝ }
+    ensures { λ r. ⌜ now (state .exit) ≡ stateOf (readingOf (blockOf s (now (samples .entry)) (now (cuts .entry)))) ⌝ }
+    ensures { λ r. ⌜ r ≡ movedCount (stateOf (readingOf (blockOf s (now (samples .entry)) (now (cuts .entry))))) ⌝ }
 {
+    clear(state);
     let n = counts::point_count(s);
     let mut q = numbers::locate(s, 0);
     let mut moved: usize = 0;
     let mut p = 0;
     while p < n {
-        let kind = q.kind;
-        let end = p + walk::line_length(s, kind);
-        if bytes::is_idle_line(s, cuts, q) {
-            rest(state, p, end);
-        } else {
+        if !bytes::is_bare_line(s, cuts, q) {
             moved += warp_line(s, samples, cuts, state, q);
         }
-        p = end;
+        let kind = q.kind;
+        p += walk::line_length(s, kind);
         if p < n {
             q = walk::next_line(s, q);
         }

@@ -3,8 +3,8 @@ use Prim.Native.Nat.{_-_, _<_}
 use native.Mathlib.Omega.{arith}
 use mathlib.Core.Path.{sym, ap, _∙_}
 use mathlib.Core.Logic.{⊎-elim}
-use Rattle.moving.specs.Violation.{violates}
-use Rattle.warp.proofs.Idle.{Nearest, nearest-found, nearest-on}
+use Rattle.moving.specs.Violation.{rule1, violates}
+use Rattle.warp.proofs.Searching.{Nearest, nearest-found, nearest-on}
 use borrow.Author.Needs.{needs}
 use Rattle.warp.proofs.moves.first_near.Statement.{statement}
 use Rattle.warp.proofs.moves.first_near.Tie as tie
@@ -47,7 +47,9 @@ loop-again c =
     let i = c .before .before .before .before .loop .inv in
     let l : c .before .before .before .before .loop .k < 14 = omega arith in
     ⊎-elim (λ w. nearest-found i l (w .1))
-    (λ w. nearest-on i l (w .1) (ap (violates _) (sym (c .before .before .cut-at .ensures)) ∙ sym (c .before .violates .ensures) ∙ w .0 .left))
+    (λ w.
+    let byte = sym (c .before .before .cut-at .ensures) in
+    nearest-on i l (w .1) (ap (violates rule1 _) byte ∙ sym (c .before .violates .ensures) ∙ w .0 .left))
     (c .if1 .came)
 
 cast-result : tie.Need-cast-result Inv-loop μ-loop

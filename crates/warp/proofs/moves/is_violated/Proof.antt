@@ -4,11 +4,10 @@ use native.Mathlib.Omega.{arith}
 use mathlib.Core.Path.{sym, ap, _∙_}
 use lib.ListN.{getD}
 use Rattle.lattice.proofs.Edge.{neighbour-lt}
-use Rattle.moving.specs.Violation.{violates}
-use Rattle.moving.specs.Moving.{violatedAlong}
+use Rattle.moving.specs.Violation.{rule1, violates}
+use Rattle.moving.specs.Reading.{violatedAlong}
 use Rattle.ground.proofs.Sites.{site-lt, site-near}
-use Rattle.warp.proofs.Codes.{violated-live}
-use Rattle.warp.proofs.Idle.{unviolated}
+use Rattle.warp.proofs.Searching.{violated-live, no-edge, unviolated}
 use borrow.Author.Needs.{needs}
 use Rattle.warp.proofs.moves.is_violated.Statement.{statement}
 use Rattle.warp.proofs.moves.is_violated.Tie as tie
@@ -30,45 +29,62 @@ enum-known-far c = search needs
 
 is-live-requires : tie.Need-is-live-requires
 is-live-requires c κs =
-    let n = c .before .before .before in
-    let a = n .before .before .before .before .before .before in
-    let g = c .before .far .given in
-    let h = a .pre .1 .1 .0 in
-    let l = site-lt (a .args .s) (a .args .q) (a .pre .0 .sized) h in
-    let m = neighbour-lt (a .args .s) (a .args .q .own) (a .args .code) (g .0 .0) l (a .pre .1 .0)
-    (site-near (a .args .s) (a .args .q) (a .pre .0 .sized) h (a .args .code) ∙ sym (n .neighbour .ensures) ∙ g .1) in
-    (omega (arith, l, a .pre .0 .samples-long), omega (arith, m, a .pre .0 .samples-long))
+    let at-near = c .before .before .before in
+    let at-start = at-near .before .before .before .before .before .before in
+    let a = at-start .args in
+    let t = at-start .pre .0 in
+    let more = at-start .pre .1 .1 in
+    let g = more .1 .0 in
+    let far = c .before .far .given in
+    let here = site-lt (a .s) (a .q) (t .sized) g in
+    let leads = site-near (a .s) (a .q) (t .sized) g (a .code) ∙ sym (at-near .neighbour .ensures) ∙ far .1 in
+    let there = neighbour-lt (a .s) (a .q .own) (a .code) (far .0 .0) here (more .0) leads in
+    let l = t .samples-long in
+    let n = at-start .pre .1 .0 in
+    ((omega arith, omega arith), (omega arith, omega arith))
 
 returns : tie.Need-returns
-unfolding violatedAlong
 returns c =
-    let n = c .before .before in
-    let a = n .before .before .before .before .before .before in
-    let e = site-near (a .args .s) (a .args .q) (a .pre .0 .sized) (a .pre .1 .1 .0) (a .args .code) in
-    sym (ap (violatedAlong _ _ _ _) (e ∙ sym (n .neighbour .ensures) ∙ c .enum-told .given .1))
+    let at-near = c .before .before in
+    let at-start = at-near .before .before .before .before .before .before in
+    let a = at-start .args in
+    let t = at-start .pre .0 in
+    let more = at-start .pre .1 .1 in
+    let g = more .1 .0 in
+    no-edge _ _ _ _ (site-near (a .s) (a .q) (t .sized) g (a .code) ∙ sym (at-near .neighbour .ensures) ∙ c .enum-told .given .1)
 
 returns-2 : tie.Need-returns-2
 returns-2 c =
-    let n = c .before .before .before .before in
-    let v = n .before .before in
-    let a = v .before .before .before .before in
-    let g = c .before .before .far .given in
-    let h = a .pre .1 .1 in
-    let e = site-near (a .args .s) (a .args .q) (a .pre .0 .sized) (h .0) (a .args .code) in
-    let w = h .1 (g .0 .0) (sym (n .neighbour .ensures) ∙ g .1) in
-    c .is-live .ensures _ _
-    ∙ violated-live _ _ _ _ _ (ap (λ (o : ℕ). violates (a .args .code) (getD (a .args .cuts .now) o 0)) (sym w)
-    ∙ ap (violates (a .args .code)) (sym (v .before .cut-at .ensures)) ∙ sym (v .violates .ensures) ∙ n .before .if1 .taken)
-    ∙ sym (ap (violatedAlong _ _ _ _) (e ∙ sym (n .neighbour .ensures) ∙ g .1))
+    let at-near = c .before .before .before .before in
+    let at-test = at-near .before .before in
+    let at-start = at-test .before .before .before .before in
+    let a = at-start .args in
+    let t = at-start .pre .0 in
+    let more = at-start .pre .1 .1 in
+    let g = more .1 .0 in
+    let far = c .before .before .far .given in
+    let leads = site-near (a .s) (a .q) (t .sized) g (a .code) ∙ sym (at-near .neighbour .ensures) ∙ far .1 in
+    let there = more .1 .1 (far .0 .0) (sym (at-near .neighbour .ensures) ∙ far .1) in
+    let violated =
+    ap (λ (o : ℕ). violates rule1 (a .code) (getD (a .cuts .now) o 0)) (sym there)
+    ∙ ap (violates rule1 (a .code)) (sym (at-test .before .cut-at .ensures))
+    ∙ sym (at-test .violates .ensures)
+    ∙ at-near .before .if1 .taken in
+    c .is-live .ensures ∙ violated-live _ _ _ _ _ violated ∙ sym (ap (violatedAlong _ _ _ _) leads)
 
 returns-3 : tie.Need-returns-3
 returns-3 c =
-    let a = c .before .before .before .before .before in
-    let h = a .pre .1 .1 in
-    sym (unviolated _ _ _ _ (λ e n.
-    let w = h .1 e (sym (site-near (a .args .s) (a .args .q) (a .pre .0 .sized) (h .0) (a .args .code)) ∙ n) in
-    ap (λ (o : ℕ). violates (a .args .code) (getD (a .args .cuts .now) o 0)) (sym w)
-    ∙ ap (violates (a .args .code)) (sym (c .before .before .cut-at .ensures)) ∙ sym (c .before .violates .ensures) ∙ c .if1 .left))
+    let at-start = c .before .before .before .before .before in
+    let a = at-start .args in
+    let t = at-start .pre .0 in
+    let more = at-start .pre .1 .1 in
+    let g = more .1 .0 in
+    sym (unviolated _ _ _ _ (λ e near.
+    let there = more .1 .1 e (sym (site-near (a .s) (a .q) (t .sized) g (a .code)) ∙ near) in
+    ap (λ (o : ℕ). violates rule1 (a .code) (getD (a .cuts .now) o 0)) (sym there)
+    ∙ ap (violates rule1 (a .code)) (sym (c .before .before .cut-at .ensures))
+    ∙ sym (c .before .violates .ensures)
+    ∙ c .if1 .left))
 
 pub is-violated-spec : {M : Type 1} → statement M
 is-violated-spec =
