@@ -1,6 +1,7 @@
 #!/usr/bin/env bash
 # Installs the static library, its header and a pkg-config file below a prefix: ./install.sh PREFIX
-# The library is built first if it is missing or older than its sources.
+# The library is built first if it is missing or older than its sources: on a fresh clone that proves it, for some minutes. Nothing
+# is printed but errors.
 set -euo pipefail
 if [ $# -ne 1 ] || [ -z "$1" ]; then
     echo "usage: ./install.sh PREFIX" >&2
@@ -12,7 +13,8 @@ cd "$(dirname "${BASH_SOURCE[0]}")"
 
 library=target/staticlib/libyakuemi.a
 if [ ! -f "$library" ] || [ -n "$(find crates crates.txt -newer "$library" -print -quit)" ]; then
-    rt staticlib yakuemi >&2
+    mkdir -p target
+    rt staticlib yakuemi >target/install.log 2>&1 || { cat target/install.log >&2; exit 1; }
 fi
 
 install -d "$prefix/lib/pkgconfig" "$prefix/include"
@@ -26,4 +28,3 @@ Version: 0.1.0
 Cflags: -I\${prefix}/include
 Libs: -L\${prefix}/lib -lyakuemi
 END
-echo "installed the library and its header to $prefix" >&2

@@ -1,7 +1,7 @@
 //! Writes calls of filling and of the place of an id, each with what the
 //! reference answers and leaves in the lent tables, to standard output: as
 //! crates/casebook/specs/cases/Blocks.antt with the argument `blocks`, and as
-//! crates/cases/stdin, many more of them, with the argument `cases`.
+//! crates/cases/stdin, many more of them and of the reader too, with `cases`.
 
 mod antt;
 mod calls;

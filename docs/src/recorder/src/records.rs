@@ -1,6 +1,6 @@
 //! The data file crates/cases/stdin: recorded calls, one after the other. A
 //! record is a head of twelve numbers, four bytes each, low byte first, and a
-//! body; crates/replay/specs says what they mean.
+//! body; crates/replay/specs/program says what they mean.
 
 use crate::run;
 use reference::block::Block;
