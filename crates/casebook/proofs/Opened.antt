@@ -11,7 +11,7 @@ use Rattle.moving.specs.Label.{labelOf, isPlus, isZero, isMinus, opposed}
 use Rattle.moving.specs.Violation.{limit, measured, violates}
 use Rattle.moving.specs.Moving.{labelAfter, live, violatedAlong, choice, codes}
 use Rattle.stencil.specs.Tetrahedron.{unit, around, offset, corner, cornerNumber, inTurn, inCube, inLine, inLayer, inAxis, tetrahedraOf}
-use Rattle.stencil.specs.Stencil.{cut, choose, patternOf, stencilOf, rowsOf, rowsFor}
+use Rattle.stencil.specs.Stencil.{cut, choose, stencilOf, rowsOf, rowsFor}
 use Rattle.stencil.specs.Id.{leadsTo, codeBetween, idOf}
 use Rattle.geometry.specs.Place.{latticePlace, cutPlace, movedPlace, pointPlace, placeOf}
 use Rattle.geometry.specs.Volume.{cross, dot, triple, sixVolume}
@@ -27,7 +27,7 @@ unfolding
     staysIn farKind farIndex near edgeByte outermost rimAt
     labelOf isPlus isZero isMinus opposed limit measured violates labelAfter live violatedAlong choice codes
     unit around offset corner cornerNumber inTurn inCube inLine inLayer inAxis tetrahedraOf
-    cut choose patternOf stencilOf rowsOf rowsFor leadsTo codeBetween idOf
+    cut choose stencilOf rowsOf rowsFor leadsTo codeBetween idOf
     latticePlace cutPlace movedPlace pointPlace placeOf cross dot triple sixVolume
     rowVolume oriented rowsIn rowsWith rimFault crossesTo cutFault movedCount overwritten written fill
     reaches believable standsTo stands idFault locate
