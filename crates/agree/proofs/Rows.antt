@@ -3,16 +3,15 @@
 use Prim.Native.Nat.{ℕ, _+_, _-_, _/_, _%_, _<_}
 use native.Mathlib.Omega.{arith}
 use mathlib.Core.Path.{_≡_, refl, sym, ap, _∙_}
-use mathlib.Core.Logic.{inl, inr}
 use mathlib.Core.Bool.{Bool, true, false, not}
 use mathlib.Core.List.{List, _∷_, map}
 use lib.IntN.{pos}
 use lib.Signed.{ltZ}
 use lib.ListN.{getD}
-use lib.Dec.{T, ltb, ltb→lt}
-use borrow.Author.Tests.{eq-eqb, ne-eqb, leb-true, leb-false}
+use lib.Dec.{T, ltb→lt}
+use borrow.Author.Tests.{eq-eqb, leb-true, leb-false}
 use Rattle.basics.specs.Choice.{if_then_else_}
-use Rattle.basics.proofs.Test.{_&_, and-l, and-r, or-cases, every, every-use, T-true, Member, here, there}
+use Rattle.basics.proofs.Test.{and-l, and-r, every, every-use, T-true, Member, here, there}
 use Rattle.basics.proofs.Gather.{gather-part}
 use Rattle.lattice.specs.declared.Near.the-variants.{At}
 use Rattle.lattice.specs.Counts.{points}
@@ -32,16 +31,17 @@ use Rattle.moving.proofs.Bytes.{nonzero-still, label-still}
 use Rattle.moving.proofs.Moved.{state-reached}
 use Rattle.stencil.specs.Tetrahedron.{Tetrahedron, Vertex, v0, v1, v2, v3, kind, corner, cornerNumber, tetrahedraOf}
 use Rattle.stencil.specs.Row.{Row, row, rowAt, swapped, mapRow}
-use Rattle.stencil.specs.Stencil.{Entry, between, rank, rowsFor}
+use Rattle.stencil.specs.Stencil.{Entry, point, between, rank, rowsFor}
 use Rattle.stencil.specs.Id.{startOf, cutId, idOf}
+use Rattle.stencil.proofs.Entries.{stands}
+use Rattle.stencil.proofs.Edges.{codeIn, between-code, between-leads}
 use Rattle.stencil.proofs.Valid.{Valid, corner-inside}
 use Rattle.stencil.proofs.Listed.{listed-valid}
 use Rattle.geometry.specs.Place.{Place, placeOf}
 use Rattle.filling.specs.Check.{Accepted}
 use Rattle.filling.specs.Mesh.{rowVolume, oriented, labelsIn, rowsIn, rowsOver, rowsWith, meshOf}
 use Rattle.filling.proofs.Fits.{Fits, accepted-fits}
-use Rattle.volumes.proofs.Between.{codeIn, between-code, between-leads}
-use Rattle.volumes.proofs.Built.{same, stands, fits, builtOf, built}
+use Rattle.volumes.proofs.Built.{fits, builtOf, built}
 use Rattle.volumes.proofs.BuiltTest.{rows-built}
 use Rattle.agree.proofs.Agree.{answerTo, standsAt, Asked, point-agrees, cut-agrees}
 
@@ -122,13 +122,8 @@ module _ (m : Reading) (asked : Asked m) (fits : Fits m) (codes : List ℕ) (rea
     entry-agrees : (x : Entry Vertex) → T (stands (labelsIn (m .sizes) final t) x)
         → answerTo m codes (idOf (m .sizes) t x) ≡ standsAt m codes (idOf (m .sizes) t x)
     unfolding stands idOf
-    entry-agrees (between u v) s =
-        elim (or-cases (same u v) (ltb (rank u) (rank v) & opposed (final (at u)) (final (at v))) s) [
-          | inl e ↦ rw (T-true (same u v) e) (point-agrees m asked codes reached (at u) (at-lt u))
-          | inr w ↦ (
-              let l = ltb→lt (rank u) (rank v) (and-l _ _ w) in
-              rw (ne-eqb (rank u) (rank v) (λ e. omega (arith, l))) (cut-corner u v l (and-r _ _ w)))
-        ]
+    entry-agrees (point v) s = point-agrees m asked codes reached (at v) (at-lt v)
+    entry-agrees (between u v) s = cut-corner u v (ltb→lt _ _ (and-l _ _ s)) (and-r _ _ s)
 
 -- what a mapped list holds
 mapped : {A B : Type 0} (f : A → B) (l : List A) {y : B} → Member y (map f l) → (x : A) × Member x l × (y ≡ f x)

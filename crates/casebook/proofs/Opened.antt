@@ -13,7 +13,7 @@ use Rattle.moving.specs.Reading.{isMove, labelAfter, live, violatedAlong}
 use Rattle.moving.specs.Order.{moveTo, turn, moveBy}
 use Rattle.moving.specs.Moving.{choice, outset, stateAt}
 use Rattle.stencil.specs.Tetrahedron.{unit, around, offset, corner, cornerNumber, inTurn, inCube, inLine, inLayer, inAxis, tetrahedraOf}
-use Rattle.stencil.specs.Stencil.{cut, choose, patternOf, stencilOf, rowsOf, rowsFor}
+use Rattle.stencil.specs.Stencil.{cut, choose, stencilOf, rowsOf, rowsFor}
 use Rattle.stencil.specs.Id.{leadsTo, codeBetween, idOf}
 use Rattle.geometry.specs.Place.{latticePlace, cutPlace, movedPlace, pointPlace, placeOf}
 use Rattle.geometry.specs.Volume.{cross, dot, triple, sixVolume}
@@ -30,7 +30,7 @@ unfolding
     labelOf labels isPlus isZero isMinus opposed limit measured violates isMove labelAfter live violatedAlong
     moveTo turn moveBy choice outset stateAt
     unit around offset corner cornerNumber inTurn inCube inLine inLayer inAxis tetrahedraOf
-    cut choose patternOf stencilOf rowsOf rowsFor leadsTo codeBetween idOf
+    cut choose stencilOf rowsOf rowsFor leadsTo codeBetween idOf
     latticePlace cutPlace movedPlace pointPlace placeOf cross dot triple sixVolume
     rowVolume oriented rowsIn rowsOver rimFault crossesTo cutFault movedCount overwritten written fill
     reaches believable standsTo stands idFault locate

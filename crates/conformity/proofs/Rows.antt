@@ -16,7 +16,7 @@ use Rattle.stencil.specs.Tetrahedron.{Tetrahedron, Vertex, v0, tetrahedraOf}
 use Rattle.stencil.specs.Row.{Row, row, mapRow}
 use Rattle.stencil.specs.Stencil.{Entry, rowsFor, point}
 use Rattle.stencil.specs.Id.{idOf}
-use Rattle.stencil.proofs.Sign.{signed, winds}
+use Rattle.stencil.specs.inner.Sign.{signed, winds}
 use Rattle.stencil.proofs.Valid.{Valid}
 use Rattle.stencil.proofs.Listed.{listed-valid}
 use Rattle.geometry.specs.Place.{Place}

@@ -4,7 +4,6 @@ use mathlib.Core.Path.{_≡_, refl, sym, ap, _∙_}
 use mathlib.Core.Bool.{Bool, true, false, not, Bool·beq}
 use mathlib.Core.List.{List, [], _∷_, _++_, map}
 use lib.Dec.{T, ltb, eqb}
-use borrow.Author.Tests.{eqb-false, ne-eqb}
 use Rattle.basics.specs.Choice.{if_then_else_}
 use Rattle.basics.specs.Lists.{gather}
 use Rattle.basics.proofs.Test.{F-false, false-F, T-true}
@@ -14,11 +13,11 @@ use Rattle.lattice.specs.Counts.{points}
 use Rattle.lattice.specs.Direction.{directionOf}
 use Rattle.lattice.specs.Edge.{byteAt}
 use Rattle.moving.specs.declared.Label.{Label}
-use Rattle.stencil.specs.Tetrahedron.{Tetrahedron, Vertex, v0, v1, v2, v3, Quarter, cornerNumber}
+use Rattle.stencil.specs.Tetrahedron.{Tetrahedron, Vertex, Quarter, cornerNumber}
 use Rattle.stencil.specs.Row.{Row, row, swapped, mapRow}
 use Rattle.stencil.specs.Stencil.{Entry, between, rank, point, cut, Stencil, no-plus, plus-zero-only, +++-, ++--, ++-0, +---, +--0, +-00, stencilOf, rowsFor}
 use Rattle.stencil.specs.Id.{codeBetween, startOf, idOf}
-use Rattle.stencil.proofs.Sign.{signed}
+use Rattle.stencil.specs.inner.Sign.{signed}
 use Rattle.filling.specs.Mesh.{ids, table}
 use Rattle.emit.specs.declared.Corner.{Corner}
 use Rattle.emit.specs.declared.Tetra.{Tetra}
@@ -31,9 +30,10 @@ use Rattle.emit.proofs.Patterns.{weights, entryLines, lines-are, Apart,
 
 -- the id of an entry by the numbers of a tetrahedron's corners
 unfoldable pub idBy : ℕ → Tetra → Entry Vertex → ℕ
+idBy n t (point v) = cornerOf t v
 idBy n t (between u v) =
     let c = codeBetween (axisAt (t .axis)) (quarterAt (t .edge)) u v in
-    if eqb (rank u) (rank v) then cornerOf t u else n + byteAt (cornerOf t (startOf c u v)) (directionOf c)
+    n + byteAt (cornerOf t (startOf c u v)) (directionOf c)
 
 -- the rows of entries that the table's lines give
 abbrev entryRow : Bool → Entry Vertex → Entry Vertex → Entry Vertex → Entry Vertex → Row (Entry Vertex)
@@ -44,16 +44,9 @@ pub record Same (n : ℕ) (t : Tetra) (a : Corner) (p : Entry Vertex) : Type 0 w
   pub is : cornerId n a ≡ idBy n t p
 
 module _ (n : ℕ) (t : Tetra) where
-  corner-id : (v : Vertex) → cornerOf t v ≡ idBy n t (between v v)
-  unfolding idBy
-  corner-id v0 = refl
-  corner-id v1 = refl
-  corner-id v2 = refl
-  corner-id v3 = refl
-
   point-id : (v : ℕ) → Same n t (pointAt t v) (point (vertexAt v))
-  unfolding pointAt
-  point-id v = record { is = corner-id (vertexAt v) }
+  unfolding pointAt idBy
+  point-id v = record { is = refl }
 
   cut-id : (u v : ℕ) → T (not (eqb (rank (vertexAt u)) (rank (vertexAt v)))) → Same n t (cutAt t u v) (cut (vertexAt u) (vertexAt v))
   unfolding cutAt cut startBetween wayBetween idBy
@@ -71,22 +64,12 @@ module _ (n : ℕ) (t : Tetra) where
       y : Vertex
       y = vertexAt v
 
-      not-same : (b : Bool) → T (not b) → b ≡ false
-      not-same true h = absurd h
-      not-same false h = refl
-
-      forth : eqb (rank x) (rank y) ≡ false
-      forth = not-same (eqb (rank x) (rank y)) ne
-
-      back : eqb (rank y) (rank x) ≡ false
-      back = ne-eqb (rank y) (rank x) (λ p. eqb-false (rank x) (rank y) forth (sym p))
-
       go : (b : Bool)
           → n + byteAt (cornerOf t (if b then startOf (codeBetween a e x y) x y else startOf (codeBetween a e y x) y x))
           (if b then directionOf (codeBetween a e x y) else directionOf (codeBetween a e y x))
           ≡ idBy n t (if b then between x y else between y x)
-      go true = rw forth refl
-      go false = rw back refl
+      go true = refl
+      go false = refl
 
   row-ids : (k : Bool) {a b c d : Corner} {p q r s : Entry Vertex} → Same n t a p → Same n t b q → Same n t c r → Same n t d s
       → rowIds n (turnedRow k a b c d) ≡ ids (mapRow (idBy n t) (entryRow k p q r s))
@@ -153,7 +136,6 @@ module _ (n : ℕ) (t : Tetra) where
 pub id-is : (s : Sizes) (t : Tetrahedron) (w : Tetra) → axisAt (w .axis) ≡ t .axis → quarterAt (w .edge) ≡ t .edge
     → ((v : Vertex) → cornerOf w v ≡ cornerNumber s t v) → (x : Entry Vertex) → idBy (points s) w x ≡ idOf s t x
 unfolding idBy idOf
+id-is s t w p q h (point v) = h v
 id-is s t w p q h (between u v) =
-    λ i.
-    if eqb (rank u) (rank v) then h u i
-    else points s + byteAt (h (startOf (codeBetween (p i) (q i) u v) u v) i) (directionOf (codeBetween (p i) (q i) u v))
+    λ i. points s + byteAt (h (startOf (codeBetween (p i) (q i) u v) u v) i) (directionOf (codeBetween (p i) (q i) u v))

@@ -14,7 +14,7 @@ use Rattle.stencil.specs.Tetrahedron.{Tetrahedron, tetrahedraOf}
 use Rattle.stencil.specs.Row.{Row, mapRow}
 use Rattle.stencil.specs.Stencil.{rowsFor}
 use Rattle.stencil.specs.Id.{idOf}
-use Rattle.stencil.proofs.Sign.{signed, winds}
+use Rattle.stencil.specs.inner.Sign.{signed, winds}
 use Rattle.stencil.proofs.Valid.{Valid}
 use Rattle.stencil.proofs.Listed.{listed-valid}
 use Rattle.geometry.specs.Place.{placeOf}

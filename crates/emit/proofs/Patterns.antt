@@ -8,15 +8,15 @@ use lib.Dec.{T, eqb}
 use Rattle.basics.specs.Choice.{if_then_else_}
 use Rattle.basics.proofs.Test.{_&_, and-l, and-r}
 use Rattle.basics.proofs.Finite.{each, each-use}
-use Rattle.basics.proofs.Tested.{theBools, same, same-use}
+use Rattle.basics.proofs.Tested.{theBools}
 use Rattle.moving.specs.declared.Label.{Label}
 use Rattle.moving.specs.Label.{isPlus, isMinus, isZero}
 use Rattle.moving.proofs.Labels.{theLabels}
 use Rattle.stencil.specs.Tetrahedron.{Vertex, v0, v1, v2, v3}
 use Rattle.stencil.specs.Row.{Row, row, swapped}
-use Rattle.stencil.specs.Stencil.{Entry, between, rank, point, cut, choose, patternOf, stencilOf, rowsOf, rowsFor}
-use Rattle.stencil.proofs.Corners.{theVertices}
-use Rattle.stencil.proofs.Sign.{newcomer, order, evenFirst, even, signed}
+use Rattle.stencil.specs.Stencil.{Entry, rank, point, cut, choose, stencilOf, rowsOf, rowsFor}
+use Rattle.stencil.proofs.Entries.{sameEntry, sameEntry-use}
+use Rattle.stencil.specs.inner.Sign.{newcomer, order, evenFirst, even, signed}
 use Rattle.emit.specs.declared.Weights.{Weights}
 use Rattle.emit.specs.declared.Order.{Order}
 use Rattle.emit.specs.inner.Corners.{vertexAt}
@@ -40,9 +40,6 @@ entryLines l s =
     (stencilOf (sum w)) (ordered w) (Bool·beq s (isEven w))
 
 -- equality of rows of entries, as a test
-unfoldable sameEntry : Entry Vertex → Entry Vertex → Bool
-sameEntry (between u v) (between x y) = same theVertices u x & same theVertices v y
-
 unfoldable sameRow : Row (Entry Vertex) → Row (Entry Vertex) → Bool
 sameRow (row a b c d) (row e f g h) = sameEntry a e & (sameEntry b f & (sameEntry c g & sameEntry d h))
 
@@ -52,18 +49,13 @@ sameRows [] (r ∷ l) = false
 sameRows (r ∷ l) [] = false
 sameRows (r ∷ l) (q ∷ m) = sameRow r q & sameRows l m
 
-entry-use : (a b : Entry Vertex) → T (sameEntry a b) → a ≡ b
-unfolding sameEntry
-entry-use (between u v) (between x y) t =
-    λ i. between (same-use theVertices u x (and-l _ _ t) i) (same-use theVertices v y (and-r (same theVertices u x) _ t) i)
-
 row-use : (a b : Row (Entry Vertex)) → T (sameRow a b) → a ≡ b
 unfolding sameRow
 row-use (row a b c d) (row e f g h) t =
     let u = and-r (sameEntry a e) _ t in
     let w = and-r (sameEntry b f) _ u in
-    λ i. row (entry-use a e (and-l _ _ t) i) (entry-use b f (and-l _ _ u) i) (entry-use c g (and-l _ _ w) i)
-    (entry-use d h (and-r (sameEntry c g) _ w) i)
+    λ i. row (sameEntry-use a e (and-l _ _ t) i) (sameEntry-use b f (and-l _ _ u) i) (sameEntry-use c g (and-l _ _ w) i)
+    (sameEntry-use d h (and-r (sameEntry c g) _ w) i)
 
 rows-use : (l m : List (Row (Entry Vertex))) → T (sameRows l m) → l ≡ m
 unfolding sameRows
@@ -90,7 +82,7 @@ right a b c d s =
     & sameRows (map (signed s) (rowsFor (four a b c d))) (entryLines (four a b c d) s)
 
 ok : T (each theLabels (λ a. each theLabels (λ b. each theLabels (λ c. each theLabels (λ d. each theBools (right a b c d))))))
-unfolding _&_ right allApart apart sameRows sameRow sameEntry lines cut choose isPlus isMinus isZero patternOf stencilOf rowsOf rowsFor newcomer order evenFirst even signed weight sum picked chosen ordered inversion isEven
+unfolding _&_ right allApart apart sameRows sameRow sameEntry lines cut choose isPlus isMinus isZero stencilOf rowsOf rowsFor newcomer order evenFirst even signed weight sum picked chosen ordered inversion isEven
 ok = tt
 
 one : (a b c d : Label) (s : Bool) → T (right a b c d s)

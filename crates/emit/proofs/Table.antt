@@ -17,7 +17,7 @@ use Rattle.stencil.specs.Tetrahedron.{Tetrahedron, Vertex, Quarter, q0, q1, q2,
 use Rattle.stencil.specs.Row.{Row, row, mapRow}
 use Rattle.stencil.specs.Stencil.{Entry, rowsFor}
 use Rattle.stencil.specs.Id.{idOf}
-use Rattle.stencil.proofs.Sign.{signed, winds}
+use Rattle.stencil.specs.inner.Sign.{signed, winds}
 use Rattle.filling.specs.Mesh.{ids, table}
 use Rattle.filling.specs.Fill.{overwritten}
 use Rattle.emit.specs.declared.Cube.{Cube}

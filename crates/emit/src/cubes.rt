@@ -14,7 +14,7 @@ ghost use lib.ListN.{length, getD};
 ghost use lib.Seq.{sets};
 ghost use Rattle.basics.specs.Lists.{gather, below};
 ghost use Rattle.moving.specs.Label.{labelOf};
-ghost use Rattle.stencil.proofs.Sign.{winds};
+ghost use Rattle.stencil.specs.inner.Sign.{winds};
 ghost use Rattle.ground.specs.inner.Places.{placeAt, InBox, placeBox};
 ghost use Rattle.emit.specs.inner.Corners.{most, quarterAt};
 ghost use Rattle.emit.specs.inner.Picks.{weight};

@@ -1,29 +1,34 @@
--- Four ascending numbers: three of them in order are a side, and four are all of them. Assumes nothing.
+-- Four ascending numbers, those of a tetrahedron's corners: three of them in order are a side, and four are all of
+-- them. Assumes nothing.
+--
+--   Alike                    entries of two tetrahedra that stand on the same numbers
+--   vertex-inj, entry-inj    a number is that of one corner; two entries of one tetrahedron on the same numbers are one
+--   same-side, same-four     three, four numbers that two tetrahedra share
 use Prim.Native.Nat.{ℕ, _≤_, _<_}
 use native.Mathlib.Omega.{arith}
-use mathlib.Core.Path.{_≡_, refl, sym, _∙_, ap}
+use mathlib.Core.Path.{_≡_, sym, _∙_, ap}
 use mathlib.Core.Bool.{Bool, true, false}
 use lib.Dec.{T, ltb, lt→ltb}
-use lib.ListN.{getD}
 use Rattle.basics.proofs.Test.{_&_, and-l, and-r, and-i, imp, imp-use, any, Member}
 use Rattle.basics.proofs.Tested.{Tested, tested, any-find, _⊗_, same, same-use}
 use Rattle.stencil.specs.Tetrahedron.{Vertex, v0, v1, v2, v3}
 use Rattle.stencil.specs.Row.{Third, t0, t1, t2}
-use Rattle.stencil.specs.Stencil.{Entry, between, rank}
-use Rattle.stencil.proofs.Corners.{theVertices}
+use Rattle.stencil.specs.Stencil.{Entry, point, between, rank}
+use Rattle.stencil.proofs.Corners.{theVertices, rank-inj}
 use Rattle.faces.proofs.Pattern.{tip, side}
 
 abbrev pub Ascending : (Vertex → ℕ) → Type 0
 Ascending f = (f v0 < f v1) × (f v1 < f v2) × (f v2 < f v3)
 
-by-rank : (v : Vertex) → getD (theVertices .all) (rank v) v0 ≡ v
-by-rank v0 = refl
-by-rank v1 = refl
-by-rank v2 = refl
-by-rank v3 = refl
+-- both stand on one number, or both between the same two
+pub data Alike (f g : Vertex → ℕ) : Entry Vertex → Entry Vertex → Type 0 where
+  on-one : {u x : Vertex} → f u ≡ g x → Alike f g (point u) (point x)
+  on-two : {u v x y : Vertex} → f u ≡ g x → f v ≡ g y → Alike f g (between u v) (between x y)
 
-pub rank-inj : (u v : Vertex) → rank u ≡ rank v → u ≡ v
-rank-inj u v e = sym (by-rank u) ∙ ap (λ (n : ℕ). getD (theVertices .all) n v0) e ∙ by-rank v
+pub alike-tip : {f g : Vertex → ℕ} {x y : Entry Vertex} → Alike f g x y → (b : Bool) → f (tip b x) ≡ g (tip b y)
+alike-tip (on-one p) b = p
+alike-tip (on-two p q) true = q
+alike-tip (on-two p q) false = p
 
 rank-lt : (v : Vertex) → rank v < 4
 rank-lt v0 = omega arith
@@ -59,8 +64,9 @@ module _ (f : Vertex → ℕ) (h : Ascending f) where
       ne : rank u ≡ rank v → ⊥
       ne e = let q : f u ≡ f v = ap f (rank-inj u v e) in omega arith
 
-  pub entry-inj : (x y : Entry Vertex) → ((b : Bool) → f (tip b x) ≡ f (tip b y)) → x ≡ y
-  entry-inj (between a b) (between c d) e = λ i. between (vertex-inj a c (e false) i) (vertex-inj b d (e true) i)
+  pub entry-inj : {x y : Entry Vertex} → Alike f f x y → x ≡ y
+  entry-inj (on-one p) = ap point (vertex-inj _ _ p)
+  entry-inj (on-two p q) = λ i. between (vertex-inj _ _ p i) (vertex-inj _ _ q i)
 
   side-up : (q : Vertex) → (f (side q t0) < f (side q t1)) × (f (side q t1) < f (side q t2))
   side-up v0 = omega arith
@@ -79,13 +85,14 @@ sides-ok : Tested (theVertices ⊗ theVertices ⊗ theVertices) (λ c. haveSide 
 unfolding _&_
 sides-ok = record { passed = tt }
 
-side-of : (u : Third → Vertex) → rank (u t0) < rank (u t1) → rank (u t1) < rank (u t2) → (q : Vertex) × ((t : Third) → side q t ≡ u t)
+side-of : (u : Third → Vertex) → rank (u t0) < rank (u t1) → rank (u t1) < rank (u t2)
+    → (q : Vertex) × ((t : Third) → side q t ≡ u t)
 side-of u l m = (q .0, is)
   where
     q : (q : Vertex) × Member q (theVertices .all) × T (isSide (u t0) (u t1) (u t2) q)
     q =
         any-find (isSide (u t0) (u t1) (u t2)) (theVertices .all)
-        (imp-use (ltb (rank (u t0)) (rank (u t1)) & ltb (rank (u t1)) (rank (u t2))) (any (isSide (u t0) (u t1) (u t2)) (theVertices .all))
+        (imp-use (ltb (rank (u t0)) (rank (u t1)) & ltb (rank (u t1)) (rank (u t2))) _
         (tested sides-ok (u t0, (u t1, u t2))) (and-i _ _ (lt→ltb _ _ l) (lt→ltb _ _ m)))
 
     is : (t : Third) → side (q .0) t ≡ u t

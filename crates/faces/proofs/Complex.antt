@@ -1,27 +1,36 @@
--- An abstract complex: cells with four ascending vertex numbers, a winding, labels of the numbers and ids of the entries. If the same
--- four vertices are those of one cell only, and each side is shared with one other cell that winds it the opposite way, or with none
--- and then has no plus, every face of every row fits. Assumes nothing.
-use Prim.Native.Nat.{ℕ, _≤_, _<_}
+-- An abstract complex: cells with four ascending vertex numbers, a winding, labels of the numbers and ids of the
+-- entries. If the same four vertices are those of one cell only, and each side is shared with one other cell that winds
+-- it the opposite way, or with none and then has no plus, every face of every row fits. Assumes nothing.
+--
+--   Complex, Fits   such a complex, and what is asked of it
+--   Held            a row that holds a face
+--   Across          what is on the other side of a side
+--   Fine            what is claimed of a face, and every-face shows of all of them
+use Prim.Native.Nat.{ℕ, _<_}
 use mathlib.Core.Path.{_≡_, refl, sym, _∙_, ap, subst, subst₂}
 use mathlib.Core.Logic.{_⊎_, inl, inr}
-use mathlib.Core.Bool.{Bool, true, false, not}
+use mathlib.Core.Bool.{Bool, not}
 use mathlib.Core.List.{List}
 use lib.Dec.{T, T-not}
 use lib.ListN.{length, getD}
 use Rattle.basics.proofs.Test.{decide}
 use Rattle.basics.proofs.Tested.{any-i}
 use Rattle.moving.specs.declared.Label.{Label}
-use Rattle.moving.specs.declared.Label.the-variants.{Zero, Plus}
+use Rattle.moving.specs.declared.Label.the-variants.{Plus}
 use Rattle.moving.specs.Label.{isPlus}
 use Rattle.stencil.specs.Tetrahedron.{Vertex}
 use Rattle.stencil.specs.Row.{Row, Face, face, Third, rowAt, faceAt, faceOf, turned, Opposite, Holds, mapRow}
-use Rattle.stencil.specs.Stencil.{Entry, between, rank}
+use Rattle.stencil.specs.Stencil.{Entry, point, between}
 use Rattle.stencil.proofs.Corners.{theVertices}
-use Rattle.faces.proofs.Windings.{mapFace, rowAt-map, faceOf-map, faceAt-map, opposite-map, opposite-wound, holds-own, holds-opposite, wound}
-use Rattle.faces.proofs.Pattern.{signedFor, rowIn, tip, mapEntry, side, outward, onTriangle, onSide, shown, noFace, lift}
+use Rattle.stencil.proofs.Entries.{Ordered, stands-ordered}
+use Rattle.faces.proofs.Windings.{mapFace, rowAt-map, faceOf-map, faceAt-map, wound}
+use Rattle.faces.proofs.Windings.{opposite-map, opposite-wound, holds-own, holds-opposite}
+use Rattle.faces.proofs.Pattern.{signedFor, rowIn, tip, mapEntry, side, outward}
+use Rattle.faces.proofs.Pattern.{onTriangle, onSide, shown, noFace, lift}
 use Rattle.faces.proofs.PatternTests.{hasPlus}
-use Rattle.faces.proofs.PatternLaws.{isPlus-i, Covers, Zeros, Alone, Fate, inner, free, on-side, fate, Showing, shown-once, has-plus, ordered}
-use Rattle.faces.proofs.Ascending.{Ascending, entry-inj, same-side, same-four}
+use Rattle.faces.proofs.PatternLaws.{isPlus-i, Covers, ZeroPoint, Zeros, Alone, Fate, inner, free, on-side, fate}
+use Rattle.faces.proofs.PatternLaws.{Showing, shown-once, has-plus, stands-at}
+use Rattle.faces.proofs.Ascending.{Ascending, Alike, on-one, on-two, alike-tip, entry-inj, same-side, same-four}
 
 pub record Complex : Type 1 where
   pub Cell : Type 0
@@ -38,6 +47,9 @@ labelsOf C i v = C .label (C .vertex i v)
 
 abbrev pub cellRows : (C : Complex) → C .Cell → List (Row (Entry Vertex))
 cellRows C i = signedFor (C .winding i) (labelsOf C i)
+
+abbrev pub entryIn : (C : Complex) → C .Cell → ℕ → Vertex → Entry Vertex
+entryIn C i r w = rowAt (rowIn (cellRows C i) r) w
 
 abbrev pub idRow : (C : Complex) → C .Cell → ℕ → Row ℕ
 idRow C i r = mapRow (C .id i) (rowIn (cellRows C i) r)
@@ -65,21 +77,20 @@ pub data Across (C : Complex) (i : C .Cell) (q : Vertex) : Type 0 where
   outside : ((m : C .Cell) (w : Vertex) → C .In m → Shares C m w i q → m ≡ i)
       → ((t : Third) → labelsOf C i (side q t) ≡ Plus → ⊥) → Across C i q
 
-abbrev pub Ordered : Entry Vertex → Type 0
-Ordered x = rank (tip false x) ≤ rank (tip true x)
+-- entries of two cells that stand on the same vertices
+abbrev pub SameEntry : (C : Complex) → C .Cell → C .Cell → Entry Vertex → Entry Vertex → Type 0
+SameEntry C i j = Alike (C .vertex i) (C .vertex j)
 
 pub record Fits (C : Complex) : Type 0 where
   pub ascending : (i : C .Cell) → C .In i → Ascending (C .vertex i)
   pub same : (i j : C .Cell) → C .In i → C .In j → ((v : Vertex) → C .vertex i v ≡ C .vertex j v) → i ≡ j
   pub across : (i : C .Cell) → C .In i → (q : Vertex) → Across C i q
-  pub id-inj : (i j : C .Cell) → C .In i → C .In j → (x y : Entry Vertex) → Ordered x → Ordered y → C .id i x ≡ C .id j y
-      → (b : Bool) → C .vertex i (tip b x) ≡ C .vertex j (tip b y)
-  pub id-same : (i j : C .Cell) → C .In i → C .In j → (x y : Entry Vertex) → ((b : Bool) → C .vertex i (tip b x) ≡ C .vertex j (tip b y))
-      → C .id i x ≡ C .id j y
-  pub skin : (i : C .Cell) → C .In i → (x : Entry Vertex) → (tip false x ≡ tip true x → labelsOf C i (tip false x) ≡ Zero)
-      → C .Skin (C .id i x)
+  pub id-inj : (i j : C .Cell) → C .In i → C .In j → (x y : Entry Vertex) → Ordered x → Ordered y
+      → C .id i x ≡ C .id j y → SameEntry C i j x y
+  pub id-same : (i j : C .Cell) → C .In i → C .In j → (x y : Entry Vertex) → SameEntry C i j x y → C .id i x ≡ C .id j y
+  pub skin : (i : C .Cell) → C .In i → (x : Entry Vertex) → ZeroPoint (labelsOf C i) x → C .Skin (C .id i x)
 
--- a face of the r-th row of the cell i: in exactly one other row, wound the opposite way; or in no other, and on the skin
+-- a face of the r-th row of the cell i: in exactly one other row, wound the opposite way; or in no other and on the skin
 pub data Fine (C : Complex) (i : C .Cell) (r : ℕ) (v : Vertex) : Type 0 where
   two : (j : C .Cell) (s : ℕ) (w : Vertex) → C .In j → s < length (cellRows C j) → (i ≡ j → r ≡ s → ⊥)
       → Opposite (idFace C i r v) (idFace C j s w)
@@ -88,7 +99,12 @@ pub data Fine (C : Complex) (i : C .Cell) (r : ℕ) (v : Vertex) : Type 0 where
   one : ((m : C .Cell) (k : ℕ) → Held C m k (idFace C i r v) → (m ≡ i) × (k ≡ r))
       → ((t : Third) → C .Skin (faceAt (idFace C i r v) t)) → Fine C i r v
 
-mapFace-lift : {A B D : Type 0} (g : B → D) (f : A → B) (x : Face A) → mapFace g (mapFace f x) ≡ mapFace (λ y. g (f y)) x
+-- the ends of a cut in a row ascend
+pub ordered : (C : Complex) (i : C .Cell) (r : ℕ) → r < length (cellRows C i) → (w : Vertex) → Ordered (entryIn C i r w)
+ordered C i r h w = stands-ordered (labelsOf C i) (entryIn C i r w) (stands-at (C .winding i) (labelsOf C i) r h w)
+
+mapFace-lift : {A B D : Type 0} (g : B → D) (f : A → B) (x : Face A)
+    → mapFace g (mapFace f x) ≡ mapFace (λ y. g (f y)) x
 mapFace-lift g f (face x y z) = refl
 
 opposite-rows : {A B : Type 0} (f : A → B) (x y : Row A) (v w : Vertex) → Opposite (faceOf x v) (faceOf y w)
@@ -99,48 +115,48 @@ module _ (C : Complex) (F : Fits C) where
   module _ (i : C .Cell) (hi : C .In i) (r : ℕ) (hr : r < length (cellRows C i)) (v : Vertex) where
     face-at : (t : Third) → faceAt (idFace C i r v) t ≡ C .id i (faceAt (cellFace C i r v) t)
     face-at t =
-        ap (λ (g : Face ℕ). faceAt g t) (faceOf-map (C .id i) (rowIn (cellRows C i) r) v) ∙ faceAt-map (C .id i) (cellFace C i r v) t
+        ap (λ (g : Face ℕ). faceAt g t) (faceOf-map (C .id i) (rowIn (cellRows C i) r) v)
+        ∙ faceAt-map (C .id i) (cellFace C i r v) t
 
     face-ordered : (t : Third) → Ordered (faceAt (cellFace C i r v) t)
-    face-ordered t =
-        let o = holds-own (rowIn (cellRows C i) r) v t in
-        subst Ordered (o .1) (ordered (C .winding i) (labelsOf C i) r hr (o .0))
+    face-ordered t = let o = holds-own (rowIn (cellRows C i) r) v t in subst Ordered (o .1) (ordered C i r hr (o .0))
 
     -- the entries of a row that holds the face stand on the vertices that the face's entries stand on
-    seen : (m : C .Cell) (k : ℕ) → Held C m k (idFace C i r v) → (t : Third) → (w : Vertex)
-        × ((b : Bool) → C .vertex m (tip b (rowAt (rowIn (cellRows C m) k) w)) ≡ C .vertex i (tip b (faceAt (cellFace C i r v) t)))
+    seen : (m : C .Cell) (k : ℕ) → Held C m k (idFace C i r v) → (t : Third)
+        → (w : Vertex) × SameEntry C m i (entryIn C m k w) (faceAt (cellFace C i r v) t)
     seen m k h t =
-        let w = h .holds t in (
-          w .0,
-          F .id-inj m i (h .cell) hi _ _ (ordered (C .winding m) (labelsOf C m) k (h .inside) (w .0)) (face-ordered t)
-              (sym (rowAt-map (C .id m) (rowIn (cellRows C m) k) (w .0)) ∙ w .1 ∙ face-at t),
-        )
+        let w = h .holds t in
+        let e = sym (rowAt-map (C .id m) (rowIn (cellRows C m) k) (w .0)) ∙ w .1 ∙ face-at t in
+        (w .0, F .id-inj m i (h .cell) hi _ _ (ordered C m k (h .inside) (w .0)) (face-ordered t) e)
 
     reached : (m : C .Cell) (k : ℕ) → Held C m k (idFace C i r v) → (u : Vertex) → Covers (cellFace C i r v) u
         → (x : Vertex) × (C .vertex m x ≡ C .vertex i u)
     reached m k h u c =
         let w = seen m k h (c .0) in
-        (tip (c .1) (rowAt (rowIn (cellRows C m) k) (w .0)), w .1 (c .1) ∙ ap (C .vertex i) (c .2))
+        (tip (c .1) (entryIn C m k (w .0)), alike-tip (w .1) (c .1) ∙ ap (C .vertex i) (c .2))
 
     -- in the face's own cell, by corners
     locally : (m : C .Cell) (k : ℕ) → Held C m k (idFace C i r v) → m ≡ i
         → (k < length (cellRows C i)) × Holds (rowIn (cellRows C i) k) (cellFace C i r v)
     locally m k h e =
         let p : Held C i k (idFace C i r v) = subst (λ (x : C .Cell). Held C x k (idFace C i r v)) e h in
-        (p .inside, λ t. let w = seen i k p t in (w .0, entry-inj (C .vertex i) (F .ascending i hi) _ _ (w .1)))
+        (p .inside, λ t. let w = seen i k p t in (w .0, entry-inj (C .vertex i) (F .ascending i hi) (w .1)))
 
     -- a face on all four vertices is held by rows of its own cell only
-    own-cell : ((u : Vertex) → Covers (cellFace C i r v) u) → (m : C .Cell) (k : ℕ) → Held C m k (idFace C i r v) → m ≡ i
+    own-cell : ((u : Vertex) → Covers (cellFace C i r v) u) → (m : C .Cell) (k : ℕ) → Held C m k (idFace C i r v)
+        → m ≡ i
     own-cell c m k h =
         sym (F .same i m hi (h .cell)
-        (same-four (C .vertex i) (C .vertex m) (F .ascending i hi) (F .ascending m (h .cell)) (λ u. reached m k h u (c u))))
+        (same-four (C .vertex i) (C .vertex m) (F .ascending i hi) (F .ascending m (h .cell))
+        (λ u. reached m k h u (c u))))
 
     on-skin : Zeros (labelsOf C i) (cellFace C i r v) → (t : Third) → C .Skin (faceAt (idFace C i r v) t)
     on-skin z t = subst (C .Skin) (sym (face-at t)) (F .skin i hi (faceAt (cellFace C i r v) t) (z t))
 
   -- a face on a side
-  module _ (i : C .Cell) (hi : C .In i) (r : ℕ) (hr : r < length (cellRows C i)) (v : Vertex) (q : Vertex) (n : ℕ) (t : Third)
-      (hn : n < length (onSide (labelsOf C i) q)) (e : cellFace C i r v ≡ lift q (turned t (shown (C .winding i) (labelsOf C i) q n)))
+  module _ (i : C .Cell) (hi : C .In i) (r : ℕ) (hr : r < length (cellRows C i)) (v q : Vertex) (n : ℕ) (t : Third)
+      (hn : n < length (onSide (labelsOf C i) q))
+      (e : cellFace C i r v ≡ lift q (turned t (shown (C .winding i) (labelsOf C i) q n)))
       (c : (u : Third) → Covers (cellFace C i r v) (side q u)) (a : Alone (cellRows C i) r (cellFace C i r v))
       (z : ((u : Third) → labelsOf C i (side q u) ≡ Plus → ⊥) → Zeros (labelsOf C i) (cellFace C i r v)) where
     -- a cell whose row holds the face has the side
@@ -167,8 +183,8 @@ module _ (C : Complex) (F : Fits C) where
       same-faces = λ x. onTriangle (λ t. C .label (sh t x))
 
       same-ids : (x : Entry Third) → C .id j (mapEntry (side u) x) ≡ onto x
-      same-ids (between a b) =
-          F .id-same j i hj hi (between (side u a) (side u b)) (between (side q a) (side q b)) (elim [ true ↦ sh b | false ↦ sh a ])
+      same-ids (point a) = F .id-same j i hj hi _ _ (on-one (sh a))
+      same-ids (between a b) = F .id-same j i hj hi _ _ (on-two (sh a) (sh b))
 
       face-here : idFace C i r v ≡ mapFace onto (turned t (wound (outward (C .winding i) q) τ))
       unfolding shown
@@ -195,22 +211,28 @@ module _ (C : Complex) (F : Fits C) where
               (opposite-map onto (opposite-wound (outward (C .winding i) q) τ t (D .t)))
 
           there : (m : C .Cell) (k : ℕ) → Held C m k (idFace C i r v) → Held C m k (idFace C j (D .r) (D .v))
-          there m k h = record { cell = h .cell; inside = h .inside; holds = holds-opposite (idRow C m k) opp (h .holds) }
+          there m k h =
+              record { cell = h .cell; inside = h .inside; holds = holds-opposite (idRow C m k) opp (h .holds) }
 
-          go : (m : C .Cell) (k : ℕ) → Held C m k (idFace C i r v) → (m ≡ i) ⊎ (m ≡ j) → ((m ≡ i) × (k ≡ r)) ⊎ ((m ≡ j) × (k ≡ D .r))
+          go : (m : C .Cell) (k : ℕ) → Held C m k (idFace C i r v) → (m ≡ i) ⊎ (m ≡ j)
+              → ((m ≡ i) × (k ≡ r)) ⊎ ((m ≡ j) × (k ≡ D .r))
           go m k h (inl d) = inl (here-once m k h d)
-          go m k h (inr d) = let p = locally j hj (D .r) (D .inside) (D .v) m k (there m k h) d in inr (d, D .only k (p .0) (p .1))
+          go m k h (inr d) =
+              let p = locally j hj (D .r) (D .inside) (D .v) m k (there m k h) d in
+              inr (d, D .only k (p .0) (p .1))
 
       -- with no plus the neighbour has no rows, and the side has none
       no-plus : T (not (hasPlus (labelsOf C j))) → (t : Third) → labelsOf C i (side q t) ≡ Plus → ⊥
       unfolding hasPlus
       no-plus p t y =
           T-not (hasPlus (labelsOf C j)) p
-          (any-i (λ v. isPlus (labelsOf C j v)) (theVertices .complete (side u t)) (isPlus-i _ (ap (C .label) (sh t) ∙ y)))
+          (any-i (λ v. isPlus (labelsOf C j v)) (theVertices .complete (side u t))
+          (isPlus-i _ (ap (C .label) (sh t) ∙ y)))
 
       lone : T (not (hasPlus (labelsOf C j))) → Fine C i r v
       lone p =
-          one (λ m k h. let w = shares m k h in go m k h (only m (w .0) (h .cell) (w .1))) (on-skin i hi r hr v (z (no-plus p)))
+          one (λ m k h. let w = shares m k h in go m k h (only m (w .0) (h .cell) (w .1)))
+          (on-skin i hi r hr v (z (no-plus p)))
         where
           go : (m : C .Cell) (k : ℕ) → Held C m k (idFace C i r v) → (m ≡ i) ⊎ (m ≡ j) → (m ≡ i) × (k ≡ r)
           go m k h (inl d) = here-once m k h d
@@ -220,16 +242,19 @@ module _ (C : Complex) (F : Fits C) where
 
     side-fine : Across C i q → Fine C i r v
     side-fine (neighbour j u hj ne sh o only) = elim (decide (hasPlus (labelsOf C j))) [
-      | inl p ↦ paired j u hj ne sh o only (shown-once (C .winding j) (labelsOf C j) p u n (rw (same-faces j u hj ne sh o only) hn))
+      | inl p ↦ paired j u hj ne sh o only
+          (shown-once (C .winding j) (labelsOf C j) p u n (rw (same-faces j u hj ne sh o only) hn))
       | inr p ↦ lone j u hj ne sh o only p
     ]
     side-fine (outside only np) =
-        one (λ m k h. let w = shares m k h in here-once m k h (only m (w .0) (h .cell) (w .1))) (on-skin i hi r hr v (z np))
+        one (λ m k h. let w = shares m k h in here-once m k h (only m (w .0) (h .cell) (w .1)))
+        (on-skin i hi r hr v (z np))
 
   module _ (i : C .Cell) (hi : C .In i) (r : ℕ) (hr : r < length (cellRows C i)) (v : Vertex) where
     fate-fine : Fate (C .winding i) (labelsOf C i) r v → Fine C i r v
     fate-fine (inner m w hm ne o c only) =
-        two i m w hi hm (λ _ d. ne d) (opposite-rows (C .id i) (rowIn (cellRows C i) r) (rowIn (cellRows C i) m) v w o)
+        two i m w hi hm (λ _ d. ne d)
+        (opposite-rows (C .id i) (rowIn (cellRows C i) r) (rowIn (cellRows C i) m) v w o)
         (λ k s h.
         let d = own-cell i hi r hr v c k s h in
         let p = locally i hi r hr v k s h d in

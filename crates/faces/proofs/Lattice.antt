@@ -1,5 +1,5 @@
--- The lattice tetrahedra of a block fit together: four corners belong to one, and a side belongs to one other, wound the opposite way,
--- or is on the rim. Assumes nothing.
+-- The lattice tetrahedra of a block fit together: four corners belong to one, and a side belongs to one other, wound
+-- the opposite way, or is on the rim. Assumes nothing.
 use Prim.Native.Nat.{ℕ, _+_, _-_, _≤_, _<_}
 use native.Mathlib.Omega.{arith}
 use mathlib.Core.Path.{_≡_, refl, sym, _∙_, ap}
@@ -22,7 +22,8 @@ use Rattle.faces.proofs.Pattern.{side}
 use Rattle.faces.proofs.Neighbour.{Neighbour, Side, nextTo, sideOf, sideOffset, sideKind}
 use Rattle.faces.proofs.NeighbourLaws.{next-kind, next-offset, next-low, next-high, next-only, same-type}
 
-pub tetrahedron-path : (t u : Tetrahedron) → t .axis ≡ u .axis → t .edge ≡ u .edge → ((c : Axis) → t .cube c ≡ u .cube c) → t ≡ u
+pub tetrahedron-path : (t u : Tetrahedron) → t .axis ≡ u .axis → t .edge ≡ u .edge
+    → ((c : Axis) → t .cube c ≡ u .cube c) → t ≡ u
 tetrahedron-path t u a e h = λ i. record { axis = a i; cube = λ c. h c i; edge = e i }
 
 abbrev pub sideAt : Tetrahedron → Vertex → Side
@@ -42,18 +43,23 @@ beside-one t q u w x y =
     tetrahedron-path u w (x .axis ∙ sym (y .axis)) (x .edge ∙ sym (y .edge)) (λ c. omega (arith, x .cube c, y .cube c))
 
 module _ (s : Sizes) where
-  -- a corner's number gives its kind and its place
+  -- where a corner stands; its number gives its kind and that
+  abbrev stood : Tetrahedron → Vertex → Axis → ℕ
+  stood t v c = t .cube c + offset (t .axis) (t .edge) v c
+
   corner-of : (t u : Tetrahedron) → Valid s t → Valid s u → (v w : Vertex) → cornerNumber s t v ≡ cornerNumber s u w
-      → (kind v ≡ kind w) × ((c : Axis) → t .cube c + offset (t .axis) (t .edge) v c ≡ u .cube c + offset (u .axis) (u .edge) w c)
+      → (kind v ≡ kind w) × ((c : Axis) → stood t v c ≡ stood u w c)
   unfolding cornerNumber corner
-  corner-of t u ht hu v w e = number-inj s (kind v) (kind w) (corner t v) (corner u w) (corner-inside s t ht v) (corner-inside s u hu w) e
+  corner-of t u ht hu v w e =
+      number-inj s (kind v) (kind w) (corner t v) (corner u w) (corner-inside s t ht v) (corner-inside s u hu w) e
 
   -- the same corners: the same tetrahedron
-  pub same-tetrahedron : (t u : Tetrahedron) → Valid s t → Valid s u → ((v : Vertex) → cornerNumber s t v ≡ cornerNumber s u v) → t ≡ u
+  pub same-tetrahedron : (t u : Tetrahedron) → Valid s t → Valid s u
+      → ((v : Vertex) → cornerNumber s t v ≡ cornerNumber s u v) → t ≡ u
   unfolding offset
   same-tetrahedron t u ht hu e = tetrahedron-path t u (k .0) (k .1) cubes
     where
-      at : (v : Vertex) (c : Axis) → t .cube c + offset (t .axis) (t .edge) v c ≡ u .cube c + offset (u .axis) (u .edge) v c
+      at : (v : Vertex) (c : Axis) → stood t v c ≡ stood u v c
       at v = corner-of t u ht hu v v (e v) .1
 
       cubes : (c : Axis) → t .cube c ≡ u .cube c
@@ -65,7 +71,7 @@ module _ (s : Sizes) where
   -- who has the side is the tetrahedron itself or its neighbour
   pub who-shares : (t u : Tetrahedron) (q w : Vertex) → Valid s t → Valid s u
       → ((i : Third) → cornerNumber s u (side w i) ≡ cornerNumber s t (side q i)) → (u ≡ t) ⊎ Beside t q u
-  who-shares t u q w ht hu e = elim (next-only (sideAt t q) (sideAt u w) (λ i. sym (at i .0)) (λ i c. omega (arith, at i .1 c, at t0 .1 c))) [
+  who-shares t u q w ht hu e = elim which [
     | inl p ↦ inl (tetrahedron-path u t (ap (λ (x : Side). x .0) p) (ap (λ (x : Side). x .1 .0) p)
         (λ c. omega (arith, at t0 .1 c, ap (λ (x : Side). sideOffset x t0 c) p)))
     | inr p ↦ inr (record {
@@ -79,13 +85,17 @@ module _ (s : Sizes) where
           × ((c : Axis) → u .cube c + sideOffset (sideAt u w) i c ≡ t .cube c + sideOffset (sideAt t q) i c)
       at i = corner-of u t hu ht (side w i) (side q i) (e i)
 
+      which : (sideAt u w ≡ sideAt t q) ⊎ (sideAt u w ≡ sideOf (beyond t q))
+      which =
+          next-only (sideAt t q) (sideAt u w) (λ i. sym (at i .0)) (λ i c. omega (arith, at i .1 c, at t0 .1 c))
+
   -- the neighbour has the side
   pub beside-shares : (t u : Tetrahedron) (q : Vertex) → Beside t q u → (i : Third)
       → cornerNumber s u (side (beyond t q .corner) i) ≡ cornerNumber s t (side q i)
   unfolding cornerNumber corner
   beside-shares t u q b i = λ x. number s (sym (next-kind (sideAt t q) i) x) (λ c. at c x)
     where
-      at : (c : Axis) → u .cube c + offset (u .axis) (u .edge) (side (beyond t q .corner) i) c ≡ t .cube c + sideOffset (sideAt t q) i c
+      at : (c : Axis) → stood u (side (beyond t q .corner) i) c ≡ t .cube c + sideOffset (sideAt t q) i c
       at c =
           let e : offset (u .axis) (u .edge) (side (beyond t q .corner) i) c ≡ sideOffset (sideOf (beyond t q)) i c
           = λ x. offset (b .axis x) (b .edge x) (side (beyond t q .corner) i) c in
@@ -98,7 +108,9 @@ module _ (s : Sizes) where
       × (t .cube c + beyond t q .up c + unit (beyond t q .axis) c < size s c + beyond t q .down c)
 
   abbrev Leaves : Tetrahedron → Vertex → Axis → Type 0
-  Leaves t q c = (Stays t q c → ⊥) × ((i : Third) → (corner t (side q i) c ≡ 0) ⊎ (corner t (side q i) c + 1 ≡ grid s (kind (side q i)) c))
+  Leaves t q c =
+      (Stays t q c → ⊥)
+      × ((i : Third) → (corner t (side q i) c ≡ 0) ⊎ (corner t (side q i) c + 1 ≡ grid s (kind (side q i)) c))
 
   grid-is : (k : Kind) (c : Axis) → grid s k c ≡ size s c + along k 0
   grid-is Corner c = refl
@@ -106,13 +118,18 @@ module _ (s : Sizes) where
 
   stays-or : (t : Tetrahedron) (q : Vertex) → Valid s t → (c : Axis) → Stays t q c ⊎ Leaves t q c
   unfolding corner
-  stays-or t q h c = go (lt-or (t .cube c + N .up c) (N .down c)) (lt-or (t .cube c + N .up c + unit (N .axis) c) (size s c + N .down c))
+  stays-or t q h c = go (lt-or first (N .down c)) (lt-or last (size s c + N .down c))
     where
       N : Neighbour
       N = beyond t q
 
-      go : (t .cube c + N .up c < N .down c) ⊎ (N .down c ≤ t .cube c + N .up c)
-          → (t .cube c + N .up c + unit (N .axis) c < size s c + N .down c) ⊎ (size s c + N .down c ≤ t .cube c + N .up c + unit (N .axis) c)
+      first : ℕ
+      first = t .cube c + N .up c
+
+      last : ℕ
+      last = first + unit (N .axis) c
+
+      go : (first < N .down c) ⊎ (N .down c ≤ first) → (last < size s c + N .down c) ⊎ (size s c + N .down c ≤ last)
           → Stays t q c ⊎ Leaves t q c
       go (inl l) m =
           let r = next-low (sideAt t q) c (omega arith) in
@@ -158,8 +175,10 @@ next-of s t q h = go (every-or (Stays s t q) (Leaves s t q) (stays-or s t q h))
 
     go : ((c : Axis) → Stays s t q c) ⊎ ((c : Axis) × Leaves s t q c) → Next s t q
     go (inl f) =
-        inside (record { axis = beyond t q .axis; edge = beyond t q .edge; cube = λ c. t .cube c + beyond t q .up c - beyond t q .down c })
+        let n = beyond t q in
+        inside (record { axis = n .axis; edge = n .edge; cube = λ c. t .cube c + n .up c - n .down c })
         (λ c. omega (arith, f c)) (record { axis = refl; edge = refl; cube = λ c. omega (arith, f c) })
     go (inr l) =
         on-rim (λ u v b. l .1 .0 (omega (arith, b .cube (l .0), v (l .0), ap (λ (a : Axis). unit a (l .0)) (b .axis))))
-        (λ i. somewhere-i (λ c. outermost (grid s (kind (side q i)) c) (corner t (side q i) c)) (l .0) (outer _ _ (l .1 .1 i)))
+        (λ i. somewhere-i (λ c. outermost (grid s (kind (side q i)) c) (corner t (side q i) c)) (l .0)
+        (outer _ _ (l .1 .1 i)))

@@ -8,10 +8,8 @@ pub mod Neighbour
 pub mod NeighbourTests
 pub mod NeighbourLaws
 pub mod Lattice
-pub mod EdgeTests
 pub mod Ids
 pub mod Signed
 pub mod LatticeComplex
 pub mod Faces
-pub mod EntryTests
 pub mod RowIds

@@ -13,7 +13,7 @@ use Rattle.stencil.specs.Row.{Third}
 use Rattle.stencil.proofs.Corners.{theVertices, theQuarters}
 use Rattle.faces.proofs.Pattern.{side}
 
--- the type of the tetrahedron across a side, its corner off the side, and its cube: so much up, so much down along each axis
+-- the type of the tetrahedron across a side, its corner off the side, and its cube, so much up and so much down
 pub record Neighbour : Type 0 where
   pub axis : Axis
   pub edge : Quarter
@@ -33,7 +33,8 @@ after a = next (next a)
 abbrev none : Axis → Axis → ℕ
 none a = cycle a 0 0 0
 
--- across the side that leaves out a corner: both tetrahedra stand on the same two cubes where it leaves out an end of the edge
+-- across the side that leaves out a corner: both tetrahedra stand on the same two cubes where it leaves out an end of
+-- the edge
 unfoldable pub across : Axis → Quarter → Vertex → Neighbour
 across a q0 v0 = record { axis = a; edge = q1; corner = v1; up = none a; down = none a }
 across a q0 v1 = record { axis = a; edge = q3; corner = v1; up = none a; down = none a }

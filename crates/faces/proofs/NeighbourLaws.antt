@@ -13,12 +13,13 @@ use Rattle.lattice.proofs.Axes.{theAxes}
 use Rattle.stencil.specs.Tetrahedron.{Vertex, Quarter, unit, offset}
 use Rattle.stencil.specs.Row.{Third, t0}
 use Rattle.stencil.proofs.Corners.{theVertices, theQuarters, theThirds}
-use Rattle.stencil.proofs.Sign.{winds}
+use Rattle.stencil.specs.inner.Sign.{winds}
 use Rattle.faces.proofs.Pattern.{outward}
 use Rattle.faces.proofs.Neighbour.{theKinds, Side, nextTo, sideOf, sideOffset, sideKind}
-use Rattle.faces.proofs.NeighbourTests.{meets, meetsAlong, faces-back, sameSide, alike, asFar, asFarAlong, meetOnly, reach, reachBeyond}
-use Rattle.faces.proofs.NeighbourTests.{lowest, highest, lowRim, highRim, sameOffset, sameType}
-use Rattle.faces.proofs.NeighbourTests.{meets-ok, faces-back-ok, differs-ok, meetOnly-ok, lowRim-ok, highRim-ok, sameType-ok}
+use Rattle.faces.proofs.NeighbourTests.{meets, meetsAlong, faces-back, sameSide, alike, asFar, asFarAlong}
+use Rattle.faces.proofs.NeighbourTests.{meetOnly, reach, reachBeyond, lowest, highest, lowRim, highRim}
+use Rattle.faces.proofs.NeighbourTests.{sameOffset, sameType, meets-ok, faces-back-ok, differs-ok, meetOnly-ok}
+use Rattle.faces.proofs.NeighbourTests.{lowRim-ok, highRim-ok, sameType-ok}
 
 sameSide-use : (x y : Side) → T (sameSide x y) → x ≡ y
 unfolding sameSide
@@ -34,7 +35,8 @@ module _ (x : Side) where
   unfolding meets
   next-kind t = same-use theKinds _ _ (and-l _ _ (tested meets-ok (x, t)))
 
-  pub next-offset : (t : Third) (c : Axis) → sideOffset (sideOf (nextTo x)) t c + nextTo x .up c ≡ sideOffset x t c + nextTo x .down c
+  pub next-offset : (t : Third) (c : Axis)
+      → sideOffset (sideOf (nextTo x)) t c + nextTo x .up c ≡ sideOffset x t c + nextTo x .down c
   unfolding meets meetsAlong
   next-offset t c =
       eqb→eq _ _ (each-use theAxes (meetsAlong x t)
@@ -54,14 +56,16 @@ module _ (x : Side) where
   unfolding lowRim lowest
   next-low c h =
       let r = imp-use (ltb 0 (nextTo x .down c)) _ (tested lowRim-ok (x, c)) (lt→ltb _ _ h) in
-      (eqb→eq _ _ (and-l _ _ r), λ t. eqb→eq _ _ (each-use theThirds (lowest x c) (and-r (eqb (nextTo x .down c) 1) _ r) t))
+      let low = and-r (eqb (nextTo x .down c) 1) _ r in
+      (eqb→eq _ _ (and-l _ _ r), λ t. eqb→eq _ _ (each-use theThirds (lowest x c) low t))
 
   pub next-high : (c : Axis) → reach x c < reachBeyond x c
       → (reachBeyond x c ≡ reach x c + 1) × ((t : Third) → sideOffset x t c ≡ unit (x .0) c + along (sideKind x t) 0)
   unfolding highRim highest
   next-high c h =
       let r = imp-use (ltb (reach x c) (reachBeyond x c)) _ (tested highRim-ok (x, c)) (lt→ltb _ _ h) in
-      (eqb→eq _ _ (and-l _ _ r), λ t. eqb→eq _ _ (each-use theThirds (highest x c) (and-r (eqb (reachBeyond x c) (reach x c + 1)) _ r) t))
+      let high = and-r (eqb (reachBeyond x c) (reach x c + 1)) _ r in
+      (eqb→eq _ _ (and-l _ _ r), λ t. eqb→eq _ _ (each-use theThirds (highest x c) high t))
 
   -- a side whose corners are of the same kinds and as far apart is the side itself or the neighbour's
   pub next-only : (y : Side) → ((t : Third) → sideKind x t ≡ sideKind y t)
@@ -81,10 +85,12 @@ module _ (x : Side) where
       which : T (sameSide y x || sameSide y (sideOf (nextTo x)))
       which = imp-use (each theThirds (asFar x y)) _ (tested meetOnly-ok (x, y)) far
 
-pub same-type : (a b : Axis) (e f : Quarter) → ((v : Vertex) (c : Axis) → offset a e v c ≡ offset b f v c) → (a ≡ b) × (e ≡ f)
+pub same-type : (a b : Axis) (e f : Quarter) → ((v : Vertex) (c : Axis) → offset a e v c ≡ offset b f v c)
+    → (a ≡ b) × (e ≡ f)
 unfolding sameType sameOffset
 same-type a b e f h =
-    let t = imp-use (each (theVertices ⊗ theAxes) (sameOffset (a, e) (b, f))) _ (tested sameType-ok ((a, e), (b, f))) equal in
+    let alike = each (theVertices ⊗ theAxes) (sameOffset (a, e) (b, f)) in
+    let t = imp-use alike _ (tested sameType-ok ((a, e), (b, f))) equal in
     (same-use theAxes a b (and-l _ _ t), same-use theQuarters e f (and-r (same theAxes a b) _ t))
   where
     equal : T (each (theVertices ⊗ theAxes) (sameOffset (a, e) (b, f)))

@@ -11,7 +11,7 @@ use Rattle.lattice.proofs.Axes.{theAxes}
 use Rattle.stencil.specs.Tetrahedron.{Vertex, Quarter, unit, around, offset}
 use Rattle.stencil.specs.Row.{Third, t0}
 use Rattle.stencil.proofs.Corners.{theVertices, theQuarters, theThirds}
-use Rattle.stencil.proofs.Sign.{winds}
+use Rattle.stencil.specs.inner.Sign.{winds}
 use Rattle.faces.proofs.Pattern.{outward}
 use Rattle.faces.proofs.Neighbour.{across, theKinds, Side, theSides, nextTo, sideOffset, sideKind, sideOf}
 
@@ -23,10 +23,12 @@ unfoldable pub meets : Side → Third → Bool
 meets x t = same theKinds (sideKind x t) (sideKind (sideOf (nextTo x)) t) & each theAxes (meetsAlong x t)
 
 unfoldable pub faces-back : Side → Bool
-faces-back x = Bool·beq (outward (winds (nextTo x .edge)) (nextTo x .corner)) (not (outward (winds (x .1 .0)) (x .1 .1)))
+faces-back x =
+    Bool·beq (outward (winds (nextTo x .edge)) (nextTo x .corner)) (not (outward (winds (x .1 .0)) (x .1 .1)))
 
 unfoldable pub sameSide : Side → Side → Bool
-sameSide x y = same theAxes (x .0) (y .0) & (same theQuarters (x .1 .0) (y .1 .0) & same theVertices (x .1 .1) (y .1 .1))
+sameSide x y =
+    same theAxes (x .0) (y .0) & (same theQuarters (x .1 .0) (y .1 .0) & same theVertices (x .1 .1) (y .1 .1))
 
 unfoldable pub alike : Side → Bool
 alike x = same theAxes (x .0) (nextTo x .axis) & same theQuarters (x .1 .0) (nextTo x .edge)
@@ -41,8 +43,8 @@ asFar x y t = same theKinds (sideKind x t) (sideKind y t) & each theAxes (asFarA
 unfoldable pub meetOnly : Side → Side → Bool
 meetOnly x y = imp (each theThirds (asFar x y)) (sameSide y x || sameSide y (sideOf (nextTo x)))
 
--- 3: where the neighbour would be outside the block, the side is on the rim: the lower and the upper end of the two cubes, as far
--- as the tetrahedron reaches and as far as the neighbour would
+-- 3: where the neighbour would be outside the block, the side is on the rim: the lower and the upper end of the two
+-- cubes, as far as the tetrahedron reaches and as far as the neighbour would
 abbrev pub reach : Side → Axis → ℕ
 reach x c = unit (x .0) c + nextTo x .down c
 
@@ -59,14 +61,16 @@ unfoldable pub lowRim : Side → Axis → Bool
 lowRim x c = imp (ltb 0 (nextTo x .down c)) (eqb (nextTo x .down c) 1 & each theThirds (lowest x c))
 
 unfoldable pub highRim : Side → Axis → Bool
-highRim x c = imp (ltb (reach x c) (reachBeyond x c)) (eqb (reachBeyond x c) (reach x c + 1) & each theThirds (highest x c))
+highRim x c =
+    imp (ltb (reach x c) (reachBeyond x c)) (eqb (reachBeyond x c) (reach x c + 1) & each theThirds (highest x c))
 
 -- 4: types with the same corners are the same
 unfoldable pub sameOffset : Axis × Quarter → Axis × Quarter → Vertex × Axis → Bool
 sameOffset x y c = eqb (offset (x .0) (x .1) (c .0) (c .1)) (offset (y .0) (y .1) (c .0) (c .1))
 
 unfoldable pub sameType : Axis × Quarter → Axis × Quarter → Bool
-sameType x y = imp (each (theVertices ⊗ theAxes) (sameOffset x y)) (same theAxes (x .0) (y .0) & same theQuarters (x .1) (y .1))
+sameType x y =
+    imp (each (theVertices ⊗ theAxes) (sameOffset x y)) (same theAxes (x .0) (y .0) & same theQuarters (x .1) (y .1))
 
 pub meets-ok : Tested (theSides ⊗ theThirds) (λ c. meets (c .0) (c .1))
 unfolding _&_ meets meetsAlong across offset around unit

@@ -1,5 +1,5 @@
--- The rows of four labels with their winding, the faces that three labels put on a triangle, and the sides of a tetrahedron.
--- Definitions only.
+-- The rows of four labels with their winding, the faces that three labels put on a triangle, and the sides of a
+-- tetrahedron. Definitions only.
 use Prim.Native.Nat.{ℕ}
 use mathlib.Core.Bool.{Bool, true, false, not}
 use mathlib.Core.List.{List, [], _∷_, map}
@@ -10,10 +10,10 @@ use Rattle.moving.specs.declared.Label.{Label}
 use Rattle.moving.specs.declared.Label.the-variants.{Zero}
 use Rattle.moving.specs.Label.{isZero}
 use Rattle.stencil.specs.Tetrahedron.{Vertex, v0, v1, v2, v3}
-use Rattle.stencil.specs.Row.{Row, row, Face, face, Third, t0, t1, t2}
-use Rattle.stencil.specs.Stencil.{Entry, between, rank, rowsFor}
+use Rattle.stencil.specs.Row.{Row, row, Face, face, Third, t0, t1, t2, faceOf}
+use Rattle.stencil.specs.Stencil.{Entry, point, between, rank, rowsFor}
 use Rattle.stencil.proofs.Corners.{theThirds}
-use Rattle.stencil.proofs.Sign.{order, even, signed}
+use Rattle.stencil.specs.inner.Sign.{order, even, signed}
 use Rattle.faces.proofs.Windings.{mapFace, wound}
 
 -- the rows of a tetrahedron whose four corners, ascending, have the labels l and wind positively (true) or not
@@ -21,19 +21,25 @@ unfoldable pub signedFor : Bool → (Vertex → Label) → List (Row (Entry Vert
 signedFor s l = map (signed s) (rowsFor l)
 
 abbrev pub noRow : Row (Entry Vertex)
-noRow = row (between v0 v0) (between v0 v0) (between v0 v0) (between v0 v0)
+noRow = row (point v0) (point v0) (point v0) (point v0)
 
 unfoldable pub rowIn : List (Row (Entry Vertex)) → ℕ → Row (Entry Vertex)
 rowIn rows r = getD rows r noRow
 
--- the two ends that an entry stands between, lower first
+-- the face of the r-th of them that leaves out v
+abbrev pub faceFor : Bool → (Vertex → Label) → ℕ → Vertex → Face (Entry Vertex)
+faceFor s l r v = faceOf (rowIn (signedFor s l) r) v
+
+-- what an entry stands on: the corner that it is, or the two ends of a cut, lower first
 module _ {X : Type 0} where
   abbrev pub tip : Bool → Entry X → X
+  tip b (point v) = v
   tip false (between u v) = u
   tip true (between u v) = v
 
 module _ {X Y : Type 0} (f : X → Y) where
   abbrev pub mapEntry : Entry X → Entry Y
+  mapEntry (point v) = point (f v)
   mapEntry (between u v) = between (f u) (f v)
 
 -- the triangle that leaves out a corner, ascending
@@ -78,11 +84,11 @@ base (row a b c d) = mapFace (mapEntry third) (wound (even (map rank (order (row
 -- the faces on a triangle by its three labels: three zeros make one, any others the bases of the rows beside a zero
 unfoldable pub onTriangle : (Third → Label) → List (Face (Entry Third))
 onTriangle l =
-    if each theThirds (λ t. isZero (l t)) then face (between t0 t0) (between t1 t1) (between t2 t2) ∷ []
+    if each theThirds (λ t. isZero (l t)) then face (point t0) (point t1) (point t2) ∷ []
     else map base (rowsFor (apex l))
 
 abbrev pub noFace : Face (Entry Third)
-noFace = face (between t0 t0) (between t0 t0) (between t0 t0)
+noFace = face (point t0) (point t0) (point t0)
 
 -- those of the side that leaves out q; the n-th of them, as the tetrahedron shows it
 unfoldable pub onSide : (Vertex → Label) → Vertex → List (Face (Entry Third))

@@ -1,31 +1,30 @@
--- What every face of every row of a pattern is like, as tests that are computed over all 81 patterns and both windings. Assumes nothing.
+-- What every face of every row of a pattern is like, as tests that are computed over all 81 patterns and both windings.
+-- Assumes nothing.
 use Prim.Native.Nat.{ℕ}
 use mathlib.Core.Bool.{Bool, true, false, not, _||_}
 use mathlib.Core.List.{List, [], _∷_}
-use lib.Dec.{eqb, leb}
+use lib.Dec.{eqb}
 use lib.ListN.{length}
 use Rattle.basics.specs.Choice.{if_then_else_}
 use Rattle.basics.specs.Lists.{from, below}
 use Rattle.basics.proofs.Test.{_&_, imp, every, any}
-use Rattle.basics.proofs.Finite.{Finite, each}
-use Rattle.basics.proofs.Tested.{Tested, theBools, _⊗_, pairs, same, keep}
+use Rattle.basics.proofs.Finite.{each}
+use Rattle.basics.proofs.Tested.{theBools, pairs, same, keep}
 use Rattle.moving.specs.declared.Label.{Label}
-use Rattle.moving.specs.Label.{isPlus, isMinus, isZero}
-use Rattle.moving.proofs.Labels.{theLabels}
-use Rattle.stencil.specs.Tetrahedron.{Vertex, v0, v1, v2, v3}
+use Rattle.moving.specs.Label.{isPlus, isMinus, isZero, opposed}
+use Rattle.stencil.specs.Tetrahedron.{Vertex}
 use Rattle.stencil.specs.Row.{Row, Face, face, Third, rowAt, faceAt, faceOf, turned, exchanged}
-use Rattle.stencil.specs.Stencil.{Entry, between, rank, cut, choose, stencilOf, patternOf, rowsOf, rowsFor}
+use Rattle.stencil.specs.Stencil.{Entry, point, between, cut, choose, stencilOf, rowsOf, rowsFor}
 use Rattle.stencil.proofs.Corners.{theVertices, theThirds}
-use Rattle.stencil.proofs.Sign.{newcomer, order, evenFirst, even, signed}
+use Rattle.stencil.proofs.Entries.{sameEntry, stands}
+use Rattle.stencil.proofs.Patterns.{AllWound}
+use Rattle.stencil.specs.inner.Sign.{newcomer, order, evenFirst, even, signed}
 use Rattle.faces.proofs.Pattern.{signedFor, rowIn, tip, side, base, onTriangle, onSide, shown, lift}
 
 abbrev pub Rows : Type 0
 Rows = List (Row (Entry Vertex))
 
--- equal entries, equal faces; a row holds a face
-unfoldable pub sameEntry : Entry Vertex → Entry Vertex → Bool
-sameEntry (between u v) (between x y) = same theVertices u x & same theVertices v y
-
+-- equal faces; a row holds a face
 unfoldable pub sameFace : Face (Entry Vertex) → Face (Entry Vertex) → Bool
 sameFace (face x y z) (face a b c) = sameEntry x a & (sameEntry y b & sameEntry z c)
 
@@ -42,7 +41,9 @@ alone (m ∷ ms) = false
 
 -- some entry of the face stands on a corner; it stands on all four; it stands on a whole side
 unfoldable pub covers : Face (Entry Vertex) → Vertex → Bool
-covers f v = any (λ (c : Third × Bool). same theVertices (tip (c .1) (faceAt f (c .0))) v) (pairs (theThirds .all) (theBools .all))
+covers f v =
+    let on : Third × Bool → Bool = λ c. same theVertices (tip (c .1) (faceAt f (c .0))) v in
+    any on (pairs (theThirds .all) (theBools .all))
 
 unfoldable pub coversAll : Face (Entry Vertex) → Bool
 coversAll f = each theVertices (covers f)
@@ -52,7 +53,8 @@ coversSide f q = each theThirds (λ t. covers f (side q t))
 
 -- a face's lattice points all have the label zero; a side has a plus
 unfoldable pub zeroPoint : (Vertex → Label) → Entry Vertex → Bool
-zeroPoint l x = imp (same theVertices (tip false x) (tip true x)) (isZero (l (tip false x)))
+zeroPoint l (point v) = isZero (l v)
+zeroPoint l (between u v) = true
 
 unfoldable pub zeros : (Vertex → Label) → Face (Entry Vertex) → Bool
 zeros l f = each theThirds (λ t. zeroPoint l (faceAt f t))
@@ -63,7 +65,7 @@ plusOn l q = any (λ t. isPlus (l (side q t))) (theThirds .all)
 unfoldable pub hasPlus : (Vertex → Label) → Bool
 hasPlus l = any (λ v. isPlus (l v)) (theVertices .all)
 
--- a face on all four corners: no other row holds it and its points are zeros, or one other row winds it the opposite way
+-- a face on all four corners: no other row holds it and its points are zeros, or one other row winds it the other way
 unfoldable pub facing : Rows → Face (Entry Vertex) → ℕ → Vertex × Third → Bool
 facing rows f m c = sameFace (faceOf (rowIn rows m) (c .0)) (exchanged (turned (c .1) f))
 
@@ -106,43 +108,33 @@ showsOn s l rows q = every (showsIn s l rows q) (below (length (onSide l q)))
 unfoldable pub showingAll : Bool → (Vertex → Label) → Rows → Bool
 showingAll s l rows = imp (hasPlus l) (each theVertices (showsOn s l rows))
 
--- 3: with no plus there are no rows; the ends of an entry ascend; the entries of a row differ
+-- 3: with no plus there are no rows; each entry stands as entries of rows do; the entries of a row differ
 unfoldable pub differing : Rows → ℕ → Vertex → Vertex → Bool
 differing rows r v w = imp (sameEntry (rowAt (rowIn rows r) v) (rowAt (rowIn rows r) w)) (same theVertices v w)
 
-unfoldable pub ascends : Rows → ℕ → Vertex → Bool
-ascends rows r v = leb (rank (tip false (rowAt (rowIn rows r) v))) (rank (tip true (rowAt (rowIn rows r) v)))
-
-unfoldable pub properAt : Rows → ℕ → Vertex → Bool
-properAt rows r v = ascends rows r v & each theVertices (differing rows r v)
+unfoldable pub properAt : (Vertex → Label) → Rows → ℕ → Vertex → Bool
+properAt l rows r v = stands l (rowAt (rowIn rows r) v) & each theVertices (differing rows r v)
 
 unfoldable pub proper : (Vertex → Label) → Rows → Bool
-proper l rows = (hasPlus l || eqb (length rows) 0) & every (λ r. each theVertices (properAt rows r)) (below (length rows))
+proper l rows =
+    (hasPlus l || eqb (length rows) 0) & every (λ r. each theVertices (properAt l rows r)) (below (length rows))
 
--- all patterns: four labels and a winding
-abbrev pub Quad : Type 0
-Quad = Label × (Label × (Label × Label))
-
-abbrev pub theQuads : Finite Quad
-theQuads = theLabels ⊗ theLabels ⊗ theLabels ⊗ theLabels
-
-abbrev pub labels : Quad → Vertex → Label
-labels c v0 = c .0
-labels c v1 = c .1 .0
-labels c v2 = c .1 .1 .0
-labels c v3 = c .1 .1 .1
-
-abbrev pub AllPatterns : (Bool → (Vertex → Label) → Bool) → Type 0
-AllPatterns f = Tested (theBools ⊗ theQuads) (λ c. f (c .0) (labels (c .1)))
-
-pub fitting-ok : AllPatterns (λ s l. fitting s l (signedFor s l))
-unfolding _&_ fitting fitsAt fits within facing beside showing zeros zeroPoint plusOn coversSide coversAll covers alone others holds sameFace sameEntry keep from signedFor rowIn shown onSide onTriangle base rowsFor rowsOf stencilOf patternOf choose cut newcomer order evenFirst even signed isPlus isMinus isZero
+pub fitting-ok : AllWound (λ s l. fitting s l (signedFor s l))
+unfolding
+    _&_ fitting fitsAt fits within facing beside showing zeros zeroPoint plusOn coversSide coversAll covers
+    alone others holds sameFace sameEntry keep from signedFor rowIn shown onSide onTriangle base
+    rowsFor rowsOf stencilOf choose cut newcomer order evenFirst even signed isPlus isMinus isZero
 fitting-ok = record { passed = tt }
 
-pub showingAll-ok : AllPatterns (λ s l. showingAll s l (signedFor s l))
-unfolding _&_ showingAll showsOn showsIn shows showing hasPlus alone others holds sameFace sameEntry keep from signedFor rowIn shown onSide onTriangle base rowsFor rowsOf stencilOf patternOf choose cut newcomer order evenFirst even signed isPlus isMinus isZero
+pub showingAll-ok : AllWound (λ s l. showingAll s l (signedFor s l))
+unfolding
+    _&_ showingAll showsOn showsIn shows showing hasPlus
+    alone others holds sameFace sameEntry keep from signedFor rowIn shown onSide onTriangle base
+    rowsFor rowsOf stencilOf choose cut newcomer order evenFirst even signed isPlus isMinus isZero
 showingAll-ok = record { passed = tt }
 
-pub proper-ok : AllPatterns (λ s l. proper l (signedFor s l))
-unfolding _&_ proper properAt ascends differing hasPlus sameEntry from signedFor rowIn rowsFor rowsOf stencilOf patternOf choose cut newcomer order evenFirst even signed isPlus isMinus isZero
+pub proper-ok : AllWound (λ s l. proper l (signedFor s l))
+unfolding
+    _&_ proper properAt stands differing hasPlus sameEntry from signedFor rowIn
+    rowsFor rowsOf stencilOf choose cut newcomer order evenFirst even signed isPlus isMinus isZero opposed
 proper-ok = record { passed = tt }

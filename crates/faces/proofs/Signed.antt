@@ -15,10 +15,11 @@ use Rattle.stencil.specs.Tetrahedron.{Tetrahedron, cornerNumber, tetrahedraOf}
 use Rattle.stencil.specs.Row.{Row, mapRow}
 use Rattle.stencil.specs.Stencil.{rowsFor}
 use Rattle.stencil.specs.Id.{idOf}
-use Rattle.stencil.proofs.Sign.{signed, winds}
+use Rattle.stencil.specs.inner.Sign.{signed, winds}
 
 unfoldable pub signedIn : Sizes → (ℕ → Label) → Tetrahedron → List (Row ℕ)
-signedIn s label t = map (mapRow (idOf s t)) (map (signed (winds (t .edge))) (rowsFor (λ v. label (cornerNumber s t v))))
+signedIn s label t =
+    map (mapRow (idOf s t)) (map (signed (winds (t .edge))) (rowsFor (λ v. label (cornerNumber s t v))))
 
 unfoldable pub signedRows : Sizes → (ℕ → Label) → List (Row ℕ)
 signedRows s label = gather (signedIn s label) (tetrahedraOf s)

@@ -2,7 +2,8 @@
 use mathlib.Core.Path.{_≡_, refl, sym, _∙_, ap}
 use mathlib.Core.Bool.{Bool, true, false, not}
 use Rattle.stencil.specs.Tetrahedron.{Vertex, v0, v1, v2, v3}
-use Rattle.stencil.specs.Row.{Row, row, Face, face, Third, t0, t1, t2, rowAt, faceAt, faceOf, turned, exchanged, Opposite, Holds, mapRow}
+use Rattle.stencil.specs.Row.{Row, row, Face, face, Third, t0, t1, t2, rowAt, faceAt, faceOf}
+use Rattle.stencil.specs.Row.{turned, exchanged, Opposite, Holds, mapRow}
 
 module _ {A B : Type 0} (f : A → B) where
   abbrev pub mapFace : Face A → Face B
@@ -84,6 +85,7 @@ module _ {A : Type 0} where
   opposite-turned (face x y z) t2 t2 = (t2, refl)
 
   -- wound one way and the other, however they are turned
-  pub opposite-wound : (b : Bool) (f : Face A) (r t : Third) → Opposite (turned r (wound b f)) (turned t (wound (not b) f))
+  pub opposite-wound : (b : Bool) (f : Face A) (r t : Third)
+      → Opposite (turned r (wound b f)) (turned t (wound (not b) f))
   opposite-wound true f r t = opposite-turned f r t
   opposite-wound false (face x y z) r t = opposite-turned (face x z y) r t

@@ -1,6 +1,8 @@
 pub mod Corners
 pub mod Turn
+pub mod Entries
+pub mod Patterns
 pub mod Rows
-pub mod Sign
+pub mod Edges
 pub mod Valid
 pub mod Listed

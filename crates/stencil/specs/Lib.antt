@@ -2,3 +2,4 @@ pub mod Tetrahedron
 pub mod Row
 pub mod Stencil
 pub mod Id
+pub mod inner

@@ -10,8 +10,9 @@ use Rattle.moving.specs.Label.{isPlus, isMinus, isZero}
 use Rattle.stencil.specs.Tetrahedron.{Vertex, v0, v1, v2, v3}
 use Rattle.stencil.specs.Row.{Row, row}
 
--- an entry of a row: a corner of the tetrahedron, which stands between itself and itself, or the cut between two, lower first
+-- an entry of a row: a corner of the tetrahedron, or the cut between two of them, the lower one first
 pub data Entry (X : Type 0) : Type 0 where
+  point : X → Entry X
   between : X → X → Entry X
 
 abbrev pub rank : Vertex → ℕ
@@ -19,9 +20,6 @@ rank v0 = 0
 rank v1 = 1
 rank v2 = 2
 rank v3 = 3
-
-abbrev pub point : Vertex → Entry Vertex
-point v = between v v
 
 -- "A pair such as p1m2 is the cut between the two"
 unfoldable pub cut : Vertex → Vertex → Entry Vertex
@@ -39,25 +37,26 @@ pub data Stencil : Type 0 where
   no-plus plus-zero-only +++- ++-- ++-0 +--- +--0 +-00 : Stencil
 
 -- the pattern's number, 5 times the plus corners and the minus corners
-unfoldable pub patternOf : ℕ → ℕ → ℕ
+abbrev pub patternOf : ℕ → ℕ → ℕ
 patternOf plus minus = 5 * plus + minus
 
 unfoldable pub stencilOf : ℕ → Stencil
 stencilOf n =
-    if leb n 4 then no-plus
-    else if eqb n 6 then +-00
-    else if eqb n 7 then +--0
-    else if eqb n 8 then +---
-    else if eqb n 11 then ++-0
-    else if eqb n 12 then ++--
-    else if eqb n 16 then +++-
+    if leb n (patternOf 0 4) then no-plus
+    else if eqb n (patternOf 1 1) then +-00
+    else if eqb n (patternOf 1 2) then +--0
+    else if eqb n (patternOf 1 3) then +---
+    else if eqb n (patternOf 2 1) then ++-0
+    else if eqb n (patternOf 2 2) then ++--
+    else if eqb n (patternOf 3 1) then +++-
     else plus-zero-only
 
 -- the n-th of a list of corners, from 1 on
 abbrev pub nth : List Vertex → ℕ → Vertex
 nth vs n = getD vs (n - 1) v0
 
--- the table, line by line; p n, m n and z n are the n-th plus, minus and zero corner, c n the n-th of the plus and then the zero ones
+-- the table, line by line; p n, m n and z n are the n-th plus, minus and zero corner, c n the n-th of the plus and then
+-- the zero ones
 unfoldable pub rowsOf : Stencil → (p m z c : ℕ → Vertex) → List (Row (Entry Vertex))
 rowsOf no-plus p m z c = []
 rowsOf plus-zero-only p m z c = row (point (c 1)) (point (c 2)) (point (c 3)) (point (c 4)) ∷ []

@@ -1,4 +1,5 @@
--- Document 01, "Lattice tetrahedra and rows": the lattice tetrahedra in their order, each with its four corners ascending.
+-- Document 01, "Lattice tetrahedra and rows": the lattice tetrahedra in their order, each with its four corners
+-- ascending.
 use Prim.Native.Nat.{ℕ, _+_, _-_, min, max}
 use mathlib.Core.List.{List, [], _∷_}
 use Rattle.basics.specs.Lists.{gather, below}
@@ -23,8 +24,8 @@ nextQuarter q1 = q2
 nextQuarter q2 = q3
 nextQuarter q3 = q0
 
--- "the two centres, lower first, and one edge of the shared face make a tetrahedron": the axis between the two cubes, the lower
--- cube, and the edge
+-- "the two centres, lower first, and one edge of the shared face make a tetrahedron": the axis between the two cubes,
+-- the lower cube, and the edge
 pub record Tetrahedron : Type 0 where
   pub axis : Axis
   pub cube : Axis → ℕ
@@ -66,8 +67,8 @@ corner t v c = t .cube c + offset (t .axis) (t .edge) v c
 unfoldable pub cornerNumber : Sizes → Tetrahedron → Vertex → ℕ
 cornerNumber s t v = number s (kind v) (corner t v)
 
--- "For axis x, then y, then z, and each cube that has a next cube along it, in ascending centre number .. The four edges go in
--- that turn, the last one closing it"
+-- "For axis x, then y, then z, and each cube that has a next cube along it, in ascending centre number .. The four
+-- edges go in that turn, the last one closing it"
 abbrev pub axes : List Axis
 axes = along-x ∷ along-y ∷ along-z ∷ []
 

@@ -1,5 +1,6 @@
--- A moved point stands in a box about its lattice place, 127 to each side along each axis; and a triple product that is positive where
--- its three vectors end at corners of boxes is positive wherever they end inside: it is affine in each coordinate. Assumes nothing.
+-- A moved point stands in a box about its lattice place, 127 to each side along each axis; and a triple product that is
+-- positive where its three vectors end at corners of boxes is positive wherever they end inside: it is affine in each
+-- coordinate. Assumes nothing.
 use Prim.Native.Nat.{ℕ, _+_, _*_, _-_, _≤_}
 use mathlib.Core.Path.{_≡_, refl, sym, _∙_, ap}
 use mathlib.Core.Bool.{Bool}
@@ -62,16 +63,16 @@ move-inner c t a code h =
       over = half + t * step c a .up - t * step c a .down;
       fits = omega arith;
       is =
-          ring (nat t ⊗ (nat (step c a .up) ⊖ nat (step c a .down))) (nat (half + t * step c a .up - t * step c a .down) ⊖ nat half)
-          (omega arith);
+          ring (nat t ⊗ (nat (step c a .up) ⊖ nat (step c a .down)))
+          (nat (half + t * step c a .up - t * step c a .down) ⊖ nat half) (omega arith);
     }
 
 -- a function z ↦ z k + c that is positive at the ends of an interval is so between them
 inside : (f : ℤ → ℤ) (k c : ℤ) → ((z : ℤ) → f z ≡ z *ℤ k +ℤ c) → (l d : ℤ) → Inner d
     → ((e : ℤ) → Member e ends → pos 0 <ℤ f (l +ℤ e)) → pos 0 <ℤ f (l +ℤ d)
 inside f k c affine l d I h =
-    between-positive (f (l +ℤ pos half)) (f (l +ℤ negℤ (pos half))) (f (l +ℤ d)) m n (m + n) (omega arith) mixed (h (pos half) here)
-    (h (negℤ (pos half)) (there here))
+    between-positive (f (l +ℤ pos half)) (f (l +ℤ negℤ (pos half))) (f (l +ℤ d)) m n (m + n) (omega arith) mixed
+    (h (pos half) here) (h (negℤ (pos half)) (there here))
   where
     m : ℕ
     m = I .over
@@ -105,7 +106,8 @@ unfolding dot
 in-box k l d I h =
     let Y = l along-y +ℤ d along-y in
     let Z = l along-z +ℤ d along-z in
-    inside (λ x. dot (xyz x Y Z) k) (k along-x) (Y *ℤ k along-y +ℤ Z *ℤ k along-z) (λ x. refl) (l along-x) (d along-x) (I along-x) λ i p.
+    inside (λ x. dot (xyz x Y Z) k) (k along-x) (Y *ℤ k along-y +ℤ Z *ℤ k along-z) (λ x. refl)
+    (l along-x) (d along-x) (I along-x) λ i p.
     let X = l along-x +ℤ i in
     inside (λ y. dot (xyz X y Z) k) (k along-y) _ (λ y. +ℤ-left (X *ℤ k along-x) (y *ℤ k along-y) (Z *ℤ k along-z))
     (l along-y) (d along-y) (I along-y) λ j q.
@@ -115,8 +117,10 @@ in-box k l d I h =
     h (xyz i j m) (extreme p q r)
 
 -- three vectors, each ending in a box
-pub in-boxes : (l₁ l₂ l₃ d₁ d₂ d₃ : Place) → ((a : Axis) → Inner (d₁ a)) → ((a : Axis) → Inner (d₂ a)) → ((a : Axis) → Inner (d₃ a))
-    → ((e₁ e₂ e₃ : Place) → Extreme e₁ → Extreme e₂ → Extreme e₃ → pos 0 <ℤ triple (shifted l₁ e₁) (shifted l₂ e₂) (shifted l₃ e₃))
+pub in-boxes : (l₁ l₂ l₃ d₁ d₂ d₃ : Place)
+    → ((a : Axis) → Inner (d₁ a)) → ((a : Axis) → Inner (d₂ a)) → ((a : Axis) → Inner (d₃ a))
+    → ((e₁ e₂ e₃ : Place) → Extreme e₁ → Extreme e₂ → Extreme e₃
+    → pos 0 <ℤ triple (shifted l₁ e₁) (shifted l₂ e₂) (shifted l₃ e₃))
     → pos 0 <ℤ triple (shifted l₁ d₁) (shifted l₂ d₂) (shifted l₃ d₃)
 unfolding triple
 in-boxes l₁ l₂ l₃ d₁ d₂ d₃ I₁ I₂ I₃ h =

@@ -1,6 +1,6 @@
--- The arms of a lattice tetrahedron from one of its corners, and a test that they wind positively when they end at corners of boxes.
--- Vectors are three numbers side by side here, and the cross product of two is taken once for all ends of the third, for speed.
--- Definitions only.
+-- The arms of a lattice tetrahedron from one of its corners, and a test that they wind positively when they end at
+-- corners of boxes. Vectors are three numbers side by side here, and the cross product of two is taken once for all
+-- ends of the third, for speed. Definitions only.
 use mathlib.Core.Bool.{Bool}
 use lib.IntN.{ℤ, pos, _+ℤ_, _-ℤ_, _*ℤ_}
 use lib.Signed.{ltZ}
@@ -9,7 +9,7 @@ use Rattle.lattice.specs.Axis.{Axis, along-x, along-y, along-z}
 use Rattle.lattice.specs.Point.{doubled}
 use Rattle.stencil.specs.Tetrahedron.{Vertex, Quarter, kind, offset}
 use Rattle.stencil.specs.Row.{Face, face}
-use Rattle.stencil.proofs.Sign.{winds}
+use Rattle.stencil.specs.inner.Sign.{winds}
 use Rattle.geometry.specs.Place.{Place}
 use Rattle.volumes.proofs.Box.{ends}
 use Rattle.volumes.proofs.Built.{opposite}

@@ -1,6 +1,6 @@
--- The computed test: a lattice tetrahedron of any of the twelve types keeps its sign while one corner rests and the three others stand at
--- corners of boxes about their lattice places, 127 to each side: 12 × 4 × 8³ determinants, of which the least is 264,192 (at 128 to each
--- side it is 0). Assumes nothing.
+-- The computed test: a lattice tetrahedron of any of the twelve types keeps its sign while one corner rests and the
+-- three others stand at corners of boxes about their lattice places, 127 to each side: 12 × 4 × 8³ determinants, of
+-- which the least is 264,192 (at 128 to each side it is 0). Assumes nothing.
 use lib.Dec.{T}
 use Rattle.basics.proofs.Test.{_&_}
 use Rattle.basics.proofs.Finite.{each, each-use}

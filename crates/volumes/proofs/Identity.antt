@@ -1,6 +1,6 @@
--- The volume identity: a row's six-volume is a positive share of the six-volume of the tetrahedron of its corners, in the order in which
--- they come. Each entry brings in one new corner and hangs on an earlier one, and along an earlier corner the triple product vanishes.
--- Assumes nothing.
+-- The volume identity: a row's six-volume is a positive share of the six-volume of the tetrahedron of its corners, in
+-- the order in which they come. Each entry brings in one new corner and hangs on an earlier one at most, and along an
+-- earlier corner the triple product vanishes. Assumes nothing.
 use Prim.Native.Nat.{ℕ, _+_, _*_, _<_}
 use mathlib.Core.Path.{_≡_, sym, _∙_, ap}
 use mathlib.Core.List.{List, [], _∷_}
@@ -13,8 +13,9 @@ use Rattle.basics.proofs.Integer.{nat, int, _⊕_, _⊖_, _⊗_, ring, between-
 use Rattle.stencil.specs.Tetrahedron.{Vertex}
 use Rattle.geometry.specs.Place.{Place}
 use Rattle.geometry.specs.Volume.{difference, triple, sixVolume}
-use Rattle.geometry.proofs.Determinant.{Linear, linear-first, linear-second, linear-third, null, twice-last, twice-first, twice-outer}
-use Rattle.volumes.proofs.Mix.{Mix}
+use Rattle.geometry.proofs.Determinant.{Linear, linear-first, linear-second, linear-third}
+use Rattle.geometry.proofs.Determinant.{null, twice-last, twice-first, twice-outer}
+use Rattle.volumes.proofs.Mix.{Mix, Brings, itself, mixed}
 
 -- x is a positive share of y, in so many parts
 pub record Share (whole : ℕ) (x y : ℤ) : Type 0 where
@@ -44,14 +45,16 @@ share-positive {a} {x} {y} s h =
 seen : (A B E W : ℤ) (m n : ℕ) → m + n ≡ 256 → pos 256 *ℤ E ≡ pos m *ℤ A +ℤ pos n *ℤ B
     → pos 256 *ℤ (E -ℤ W) ≡ pos m *ℤ (A -ℤ W) +ℤ pos n *ℤ (B -ℤ W)
 seen A B E W m n h e =
-    ring (nat 256 ⊗ (int E ⊖ int W)) (nat 256 ⊗ int E ⊖ nat 256 ⊗ int W) (omega arith) ∙ (λ i. e i -ℤ pos (sym h i) *ℤ W)
-    ∙ ring (nat m ⊗ int A ⊕ nat n ⊗ int B ⊖ nat (m + n) ⊗ int W) (nat m ⊗ (int A ⊖ int W) ⊕ nat n ⊗ (int B ⊖ int W)) (omega arith)
+    ring (nat 256 ⊗ (int E ⊖ int W)) (nat 256 ⊗ int E ⊖ nat 256 ⊗ int W) (omega arith)
+    ∙ (λ i. e i -ℤ pos (sym h i) *ℤ W)
+    ∙ ring (nat m ⊗ int A ⊕ nat n ⊗ int B ⊖ nat (m + n) ⊗ int W)
+    (nat m ⊗ (int A ⊖ int W) ⊕ nat n ⊗ (int B ⊖ int W)) (omega arith)
 
 module _ (P : Vertex → Place) (w : Vertex) where
   abbrev from : Vertex → Place
   from v = difference (P w) (P v)
 
-  -- an entry that brings in y and hangs on o counts for a share of y, where what came before counts for nothing
+  -- an entry that brings in y counts for a share of y, where what came before counts for nothing
   module _ (g : Place → ℤ) (linear : Linear g) where
     split : {o y : Vertex} {E : Place} (mix : Mix (P o) (P y) E)
         → pos 256 *ℤ g (difference (P w) E) ≡ pos (mix .m) *ℤ g (from o) +ℤ pos (mix .n) *ℤ g (from y)
@@ -59,16 +62,11 @@ module _ (P : Vertex → Place) (w : Vertex) where
         linear (difference (P w) E) (from o) (from y) (mix .m) (mix .n) 256
         (λ a. seen (P o a) (P y a) (E a) (P w a) (mix .m) (mix .n) (mix .whole) (mix .is a))
 
-    hung : {before : List Vertex} {y o : Vertex} {E : Place} → ((v : Vertex) → Member v before → g (from v) ≡ pos 0)
-        → Member o (y ∷ before) → Mix (P o) (P y) E → Share 256 (g (difference (P w) E)) (g (from y))
-    hung {y = y} vanishes here mix =
-        let x = int (g (from y)) in
-        record {
-          parts = mix .m + mix .n;
-          some = omega (arith, mix .m-some);
-          is = split mix ∙ ring (nat (mix .m) ⊗ x ⊕ nat (mix .n) ⊗ x) (nat (mix .m + mix .n) ⊗ x) (omega arith);
-        }
-    hung {y = y} {o = o} vanishes (there p) mix =
+    hung : {before : List Vertex} {y : Vertex} {E : Place} → ((v : Vertex) → Member v before → g (from v) ≡ pos 0)
+        → Brings P before y E → Share 256 (g (difference (P w) E)) (g (from y))
+    hung vanishes (itself e) =
+        record { parts = 256; some = omega arith; is = ap (λ (E : Place). pos 256 *ℤ g (difference (P w) E)) e }
+    hung {y = y} vanishes (mixed o p mix) =
         let x = int (g (from y)) in
         record {
           parts = mix .n;
@@ -91,16 +89,14 @@ module _ (P : Vertex → Place) (w : Vertex) where
   before-third x y u (there here) = twice-outer (from x) (from y)
   before-third x y u (there (there here)) = twice-last (from x) (from y)
 
-  pub identity : {x y z o₁ o₂ o₃ : Vertex} {B C D : Place}
-      → Member o₁ (x ∷ w ∷ []) → Mix (P o₁) (P x) B
-      → Member o₂ (y ∷ w ∷ x ∷ []) → Mix (P o₂) (P y) C
-      → Member o₃ (z ∷ w ∷ x ∷ y ∷ []) → Mix (P o₃) (P z) D
+  pub identity : {x y z : Vertex} {B C D : Place}
+      → Brings P (w ∷ []) x B → Brings P (w ∷ x ∷ []) y C → Brings P (w ∷ x ∷ y ∷ []) z D
       → Share (256 * 256 * 256) (sixVolume (P w) B C D) (sixVolume (P w) (P x) (P y) (P z))
   unfolding sixVolume
-  identity {x} {y} {z} {B = B} {C = C} {D = D} p b q c r d =
-      share-of (hung (λ v. triple v C′ D′) (linear-first C′ D′) (before-first C′ D′) p b)
-      (share-of (hung (λ v. triple (from x) v D′) (linear-second (from x) D′) (before-second x D′) q c)
-      (hung (λ v. triple (from x) (from y) v) (linear-third (from x) (from y)) (before-third x y) r d))
+  identity {x} {y} {z} {B = B} {C = C} {D = D} b c d =
+      share-of (hung (λ v. triple v C′ D′) (linear-first C′ D′) (before-first C′ D′) b)
+      (share-of (hung (λ v. triple (from x) v D′) (linear-second (from x) D′) (before-second x D′) c)
+      (hung (λ v. triple (from x) (from y) v) (linear-third (from x) (from y)) (before-third x y) d))
     where
       C′ : Place
       C′ = difference (P w) C

@@ -1,5 +1,5 @@
--- A lattice tetrahedron keeps its sign when its corners move within reach, as long as one of them rests: seen from that corner, the
--- three others wind as the type says. Assumes nothing.
+-- A lattice tetrahedron keeps its sign when its corners move within reach, as long as one of them rests: seen from that
+-- corner, the three others wind as the type says. Assumes nothing.
 use Prim.Native.Nat.{_*_}
 use mathlib.Core.Path.{_≡_, refl, sym, _∙_, subst}
 use mathlib.Core.Bool.{Bool}
@@ -14,31 +14,35 @@ use Rattle.lattice.specs.Point.{doubled}
 use Rattle.lattice.specs.Direction.{step}
 use Rattle.stencil.specs.Tetrahedron.{Tetrahedron, Vertex, kind, corner}
 use Rattle.stencil.specs.Row.{Face, face, Third, t0, t1, t2, turned}
-use Rattle.stencil.proofs.Sign.{winds}
+use Rattle.stencil.specs.inner.Sign.{winds}
+use Rattle.stencil.proofs.Edges.{counted, counted-corner}
 use Rattle.geometry.specs.Place.{Place, latticePlace, signed}
 use Rattle.geometry.specs.Volume.{difference, cross, dot, triple, sixVolume}
 use Rattle.geometry.proofs.Determinant.{turn}
 use Rattle.volumes.proofs.Sound.{Moved}
 use Rattle.volumes.proofs.Box.{Inner, ends, Extreme, shifted, move-inner, in-boxes}
-use Rattle.volumes.proofs.Between.{counted, counted-corner}
 use Rattle.volumes.proofs.Built.{opposite}
 use Rattle.volumes.proofs.Ends.{arm, Vector, vector, flat, normal, along, atCorners, ahead, positiveAt, armsWind}
 use Rattle.volumes.proofs.EndsTest.{type-keeps}
 
 -- what the computed test says
-corners-use : (f : Vector → Bool) (l : Place) → T (atCorners f (flat l)) → (e : Place) → Extreme e → T (f (flat (shifted l e)))
+corners-use : (f : Vector → Bool) (l : Place) → T (atCorners f (flat l)) → (e : Place) → Extreme e
+    → T (f (flat (shifted l e)))
 unfolding atCorners
 corners-use f l t e c =
-    every-use (λ k. f (vector (l along-x +ℤ e along-x) (l along-y +ℤ e along-y) (l along-z +ℤ k))) ends
-    (every-use (λ j. every (λ k. f (vector (l along-x +ℤ e along-x) (l along-y +ℤ j) (l along-z +ℤ k))) ends) ends
-    (every-use (λ i. every (λ j. every (λ k. f (vector (l along-x +ℤ i) (l along-y +ℤ j) (l along-z +ℤ k))) ends) ends) ends t
-    (c along-x)) (c along-y)) (c along-z)
+    every-use (at (e along-x) (e along-y)) ends
+    (every-use (λ j. every (at (e along-x) j) ends) ends
+    (every-use (λ i. every (λ j. every (at i j) ends) ends) ends t (c along-x)) (c along-y)) (c along-z)
+  where
+    at : ℤ → ℤ → ℤ → Bool
+    at i j k = f (vector (l along-x +ℤ i) (l along-y +ℤ j) (l along-z +ℤ k))
 
 flat-triple : (u v w : Place) → along (normal (flat u) (flat v)) (flat w) ≡ triple u v w
 unfolding along normal triple dot cross
 flat-triple u v w = turn w u v
 
-ends-use : (u v w : Place) → T (positiveAt (flat u) (flat v) (flat w)) → (d e f : Place) → Extreme d → Extreme e → Extreme f
+ends-use : (u v w : Place) → T (positiveAt (flat u) (flat v) (flat w))
+    → (d e f : Place) → Extreme d → Extreme e → Extreme f
     → pos 0 <ℤ triple (shifted u d) (shifted v e) (shifted w f)
 unfolding positiveAt ahead
 ends-use u v w t d e f p q r =
@@ -51,7 +55,8 @@ ends-use u v w t d e f p q r =
 abbrev pub seenFrom : (Vertex → Place) → Vertex → Face Vertex → ℤ
 seenFrom P u (face x y z) = sixVolume (P u) (P x) (P y) (P z)
 
-pub turned-same : (P : Vertex → Place) (u : Vertex) (r : Third) (f : Face Vertex) → seenFrom P u (turned r f) ≡ seenFrom P u f
+pub turned-same : (P : Vertex → Place) (u : Vertex) (r : Third) (f : Face Vertex)
+    → seenFrom P u (turned r f) ≡ seenFrom P u f
 unfolding sixVolume
 turned-same P u t0 (face x y z) = refl
 turned-same P u t1 (face x y z) = sym (turn (difference (P u) (P x)) (difference (P u) (P y)) (difference (P u) (P z)))

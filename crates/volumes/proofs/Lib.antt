@@ -1,6 +1,5 @@
 pub mod Sound
 pub mod Box
-pub mod Between
 pub mod Built
 pub mod BuiltTest
 pub mod Ends

@@ -1,35 +1,36 @@
--- The six-volume of each row of a lattice tetrahedron: a positive share of that of the corners at their places (the volume identity), with
--- a sign that the pattern and the type alone decide. Assumes nothing.
+-- The six-volume of each row of a lattice tetrahedron: a positive share of that of the corners at their places (the
+-- volume identity), with a sign that the pattern and the type alone decide. Assumes nothing.
 use Prim.Native.Nat.{ℕ, _*_}
 use mathlib.Core.Path.{_≡_, refl, sym, _∙_, ap, subst}
 use mathlib.Core.Logic.{inl, inr}
 use mathlib.Core.Bool.{Bool, true, false, not, Bool·beq}
 use mathlib.Core.List.{List, [], _∷_}
-use lib.Dec.{T}
+use lib.Dec.{T, ltb→lt}
 use lib.IntN.{ℤ, pos, negℤ}
 use lib.Signed.{_<ℤ_}
-use Rattle.basics.proofs.Test.{_&_, and-l, and-r, or-cases, Member, here, any, any-use, every-use}
+use Rattle.basics.proofs.Test.{_&_, and-l, and-r, or-cases, Member, any, any-use, every-use}
 use Rattle.basics.proofs.Integer.{*ℤ-neg}
 use Rattle.lattice.specs.declared.Sizes.{Sizes}
 use Rattle.moving.specs.declared.Label.{Label}
 use Rattle.moving.specs.Label.{isZero}
 use Rattle.stencil.specs.Tetrahedron.{Tetrahedron, Vertex, kind, corner, cornerNumber}
 use Rattle.stencil.specs.Row.{Row, row, face, turned, mapRow}
-use Rattle.stencil.specs.Stencil.{Entry, between, rowsFor}
+use Rattle.stencil.specs.Stencil.{Entry, point, between, rowsFor}
 use Rattle.stencil.specs.Id.{idOf}
 use Rattle.stencil.proofs.Corners.{theThirds}
-use Rattle.stencil.proofs.Sign.{winds}
+use Rattle.stencil.specs.inner.Sign.{winds}
+use Rattle.stencil.proofs.Entries.{stands}
 use Rattle.stencil.proofs.Valid.{Valid, corner-inside}
 use Rattle.geometry.specs.Place.{Place}
 use Rattle.geometry.specs.Volume.{sixVolume}
 use Rattle.geometry.proofs.Determinant.{volume-swap}
 use Rattle.filling.specs.Mesh.{rowVolume}
 use Rattle.volumes.proofs.Sound.{Sound}
-use Rattle.volumes.proofs.Built.{same, same-use, any-same, stands, hangs, fits, builtOf, coming, built}
+use Rattle.volumes.proofs.Built.{is, is-use, any-is, hangs, fits, builtOf, coming, built}
 use Rattle.volumes.proofs.Built.{faced, opposite, sameFace, face-same, isEven, woundOf}
 use Rattle.volumes.proofs.BuiltTest.{rows-built}
 use Rattle.volumes.proofs.Keeps.{seenFrom, turned-same, keeps}
-use Rattle.volumes.proofs.Mix.{Mix, flip, id-point, entry-mix}
+use Rattle.volumes.proofs.Mix.{Mix, flip, Brings, itself, mixed, cut-place}
 use Rattle.volumes.proofs.Identity.{Share, share-positive, identity}
 
 -- a number (true), or its negative
@@ -40,7 +41,11 @@ turnedBy false z = negℤ z
 share-turned : (b : Bool) {n : ℕ} {x y : ℤ} → Share n x y → Share n (turnedBy b x) (turnedBy b y)
 share-turned true s = s
 share-turned false {n} {x} {y} s =
-    record { parts = s .parts; some = s .some; is = *ℤ-neg (pos n) x ∙ ap negℤ (s .is) ∙ sym (*ℤ-neg (pos (s .parts)) y) }
+    record {
+      parts = s .parts;
+      some = s .some;
+      is = *ℤ-neg (pos n) x ∙ ap negℤ (s .is) ∙ sym (*ℤ-neg (pos (s .parts)) y);
+    }
 
 -- the corners in the order in which they come wind as those opposite the first
 faced-volume : (b : Bool) (P : Vertex → Place) (w x y z : Vertex)
@@ -57,52 +62,48 @@ wound-use s r w x y z t P =
     sym (ap (seenFrom P w) (face-same f (turned (k .0) (opposite s w)) (k .1)) ∙ turned-same P w (k .0) (opposite s w))
     ∙ faced-volume (Bool·beq s (isEven r)) P w x y z
 
-only : {u w : Vertex} → Member u (w ∷ []) → u ≡ w
-only here = refl
+-- nothing came before the first
+brings-first : {P : Vertex → Place} {w : Vertex} {E : Place} → Brings P [] w E → E ≡ P w
+brings-first (itself e) = e
 
-module _ {s : Sizes} {label : ℕ → Label} {byte : ℕ → ℕ} {place : ℕ → Place} (Q : Sound s label byte place) (t : Tetrahedron) (h : Valid s t) where
+module _ {s : Sizes} {label : ℕ → Label} {byte : ℕ → ℕ} {place : ℕ → Place}
+    (Q : Sound s label byte place) (t : Tetrahedron) (h : Valid s t) where
   abbrev at : Vertex → Place
   at v = place (cornerNumber s t v)
 
   abbrev labels : Vertex → Label
   labels v = label (cornerNumber s t v)
 
-  -- the place of an entry, by the corner that it brings in and the one that it hangs on; of the first, which has none to hang on
+  -- the place of an entry, by the corner that it brings in and those that came before
   fits-use : (e : Entry Vertex) (before : List Vertex) (y : Vertex) → T (fits labels before y e)
-      → (o : Vertex) × Member o (y ∷ before) × Mix (at o) (at y) (place (idOf s t e))
-  unfolding fits hangs
+      → Brings at before y (place (idOf s t e))
+  unfolding idOf fits hangs stands
+  fits-use (point v) before y f = itself (ap at (is-use v y (and-r _ _ f)))
   fits-use (between u v) before y f =
-      elim (or-cases (same v y & any (same u) (y ∷ before)) _ (and-r (stands labels (between u v)) _ f)) [
-        | inl p ↦ (u, any-same u (y ∷ before) (and-r _ _ p), subst (λ (z : Vertex). Mix (at u) (at z) E) (same-use v y (and-l _ _ p)) mix)
-        | inr p ↦ (v, any-same v (y ∷ before) (and-r _ _ p), subst (λ (z : Vertex). Mix (at v) (at z) E) (same-use u y (and-l _ _ p)) (flip mix))
+      let k = and-r (stands labels (between u v)) _ f in
+      elim (or-cases (is v y & any (is u) before) (is u y & any (is v) before) k) [
+        | inl p ↦ mixed u (any-is u before (and-r _ _ p))
+            (subst (λ (z : Vertex). Mix (at u) (at z) E) (is-use v y (and-l _ _ p)) mix)
+        | inr p ↦ mixed v (any-is v before (and-r _ _ p))
+            (subst (λ (z : Vertex). Mix (at v) (at z) E) (is-use u y (and-l _ _ p)) (flip mix))
       ]
     where
       E : Place
       E = place (idOf s t (between u v))
 
       mix : Mix (at u) (at v) E
-      mix = entry-mix Q t h u v (and-l _ _ f)
-
-  first-use : (e : Entry Vertex) (w : Vertex) → T (fits labels [] w e) → place (idOf s t e) ≡ at w
-  unfolding fits hangs
-  first-use (between u v) w f =
-      elim (or-cases (same v w & any (same u) (w ∷ [])) _ (and-r (stands labels (between u v)) _ f)) [
-        | inl p ↦ at-both (only (any-same u (w ∷ []) (and-r _ _ p))) (same-use v w (and-l _ _ p))
-        | inr p ↦ at-both (same-use u w (and-l _ _ p)) (only (any-same v (w ∷ []) (and-r _ _ p)))
-      ]
-    where
-      at-both : u ≡ w → v ≡ w → place (idOf s t (between u v)) ≡ at w
-      at-both p q = (λ i. place (idOf s t (between (p i) (q i)))) ∙ ap place (id-point Q t h w)
+      mix = let k = and-l _ _ f in cut-place Q t h u v (ltb→lt _ _ (and-l _ _ k)) (and-r _ _ k)
 
   built-share : (r : Row (Entry Vertex)) (w x y z : Vertex) → T (builtOf labels r w x y z)
       → Share (256 * 256 * 256) (rowVolume place (mapRow (idOf s t) r)) (sixVolume (at w) (at x) (at y) (at z))
   unfolding builtOf rowVolume
   built-share (row a b c d) w x y z f =
       let rest = and-r _ _ (and-r (not (isZero (labels w))) _ f) in
+      let A = brings-first (fits-use a [] w (and-l _ _ (and-r _ _ f))) in
       let B = fits-use b (w ∷ []) x (and-l _ _ rest) in
       let C = fits-use c (w ∷ x ∷ []) y (and-l _ _ (and-r _ _ rest)) in
       let D = fits-use d (w ∷ x ∷ y ∷ []) z (and-r _ _ (and-r _ _ rest)) in
-      rw (first-use a w (and-l _ _ (and-r _ _ f))) (identity at w (B .1) (B .2) (C .1) (C .2) (D .1) (D .2))
+      rw A (identity at w B C D)
 
   solid : (r : Row (Entry Vertex)) (w x y z : Vertex) → T (builtOf labels r w x y z) → T (not (isZero (labels w)))
   unfolding builtOf
@@ -115,7 +116,8 @@ module _ {s : Sizes} {label : ℕ → Label} {byte : ℕ → ℕ} {place : ℕ �
     passed : T (built labels r)
     passed = every-use (built labels) (rowsFor labels) (rows-built labels) among
 
-    -- the volume identity: 256³ times a row's six-volume is a positive number times that of its corners, in the order in which they come
+    -- the volume identity: 256³ times a row's six-volume is a positive number times that of its corners, in the order
+    -- in which they come
     pub volume-identity :
         Share (256 * 256 * 256) (rowVolume place (mapRow (idOf s t) r))
         (sixVolume (at (corners 0)) (at (corners 1)) (at (corners 2)) (at (corners 3)))

@@ -1,5 +1,6 @@
--- Demand 3, volumes: where points and cuts stand as the moving step leaves them, the rows of a lattice tetrahedron are oriented as their
--- pattern and the type say, whatever the moves and the cut bytes, and every six-volume is above zero. Assumes nothing.
+-- Demand 3, volumes: where points and cuts stand as the moving step leaves them, the rows of a lattice tetrahedron are
+-- oriented as their pattern and the type say, whatever the moves and the cut bytes, and every six-volume is above zero.
+-- Assumes nothing.
 use Prim.Native.Nat.{ℕ, zero, suc, _<_}
 use mathlib.Core.Path.{_≡_, refl, sym, _∙_}
 use mathlib.Core.Bool.{Bool, true, false, Bool·beq}
@@ -17,7 +18,7 @@ use Rattle.stencil.specs.Tetrahedron.{Tetrahedron, Vertex, cornerNumber}
 use Rattle.stencil.specs.Row.{Row, row, swapped, mapRow}
 use Rattle.stencil.specs.Stencil.{Entry, rowsFor}
 use Rattle.stencil.specs.Id.{idOf}
-use Rattle.stencil.proofs.Sign.{signed, winds}
+use Rattle.stencil.specs.inner.Sign.{signed, winds}
 use Rattle.stencil.proofs.Valid.{Valid}
 use Rattle.geometry.specs.Place.{Place}
 use Rattle.geometry.proofs.Determinant.{volume-swap}
@@ -36,7 +37,8 @@ below (pos zero) h = absurd (h .lt)
 below (pos (suc n)) h = absurd (h .lt)
 below (negsuc n) h = refl
 
--- a row as it is (true) or with its last two corners exchanged: its six-volume, and what the rule of orientation makes of it
+-- a row as it is (true) or with its last two corners exchanged: its six-volume, and what the rule of orientation makes
+-- of it
 module _ (place : ℕ → Place) (id : Entry Vertex → ℕ) where
   swapped-volume : (b : Bool) (r : Row (Entry Vertex))
       → rowVolume place (mapRow id (if b then r else swapped r)) ≡ turnedBy b (rowVolume place (mapRow id r))
@@ -60,12 +62,15 @@ getD-member [] n d h = absurd (omega arith)
 getD-member (x ∷ l) zero d h = here
 getD-member (x ∷ l) (suc n) d h = there (getD-member l n d (omega arith))
 
-module _ {s : Sizes} {label : ℕ → Label} {byte : ℕ → ℕ} {place : ℕ → Place} (Q : Sound s label byte place) (t : Tetrahedron) (h : Valid s t) where
+module _ {s : Sizes} {label : ℕ → Label} {byte : ℕ → ℕ} {place : ℕ → Place}
+    (Q : Sound s label byte place) (t : Tetrahedron) (h : Valid s t) where
   abbrev rows : List (Row (Entry Vertex))
   rows = rowsFor (λ v. label (cornerNumber s t v))
 
-  -- "The last two corners change places exactly if the six-volume would be negative": exactly if the type and the pattern's row say so
-  pub oriented-rows : map (oriented place) (map (mapRow (idOf s t)) rows) ≡ map (mapRow (idOf s t)) (map (signed (winds (t .edge))) rows)
+  -- "The last two corners change places exactly if the six-volume would be negative": exactly if the type and the
+  -- pattern's row say so
+  pub oriented-rows :
+      map (oriented place) (map (mapRow (idOf s t)) rows) ≡ map (mapRow (idOf s t)) (map (signed (winds (t .edge))) rows)
   unfolding signed
   oriented-rows =
       map-map (oriented place) (mapRow (idOf s t)) rows

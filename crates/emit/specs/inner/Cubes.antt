@@ -17,7 +17,7 @@ use Rattle.moving.specs.Block.{blockOf}
 use Rattle.moving.specs.declared.Label.{Label}
 use Rattle.moving.specs.Label.{labelOf, isPlus}
 use Rattle.moving.specs.Moving.{labelAfter}
-use Rattle.stencil.proofs.Sign.{winds}
+use Rattle.stencil.specs.inner.Sign.{winds}
 use Rattle.emit.specs.declared.Tetra.{Tetra}
 use Rattle.emit.specs.declared.Weights.{Weights}
 use Rattle.emit.specs.declared.Cube.{Cube}

@@ -11,7 +11,7 @@ use Rattle.stencil.specs.Tetrahedron.{Tetrahedron, Vertex, cornerNumber, tetrah
 use Rattle.stencil.specs.Row.{Row, mapRow}
 use Rattle.stencil.specs.Stencil.{rowsFor}
 use Rattle.stencil.specs.Id.{idOf}
-use Rattle.stencil.proofs.Sign.{signed, winds}
+use Rattle.stencil.specs.inner.Sign.{signed, winds}
 use Rattle.filling.specs.Mesh.{table}
 use Rattle.emit.specs.inner.Cubes.{labelIn}
 

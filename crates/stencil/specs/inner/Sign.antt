@@ -1,18 +1,29 @@
--- The orientation of a row without any place: each entry of a row brings in one new corner of the tetrahedron, and the row winds as the
--- corners in that order do. Used to join the faces' half of demand 3 to the volumes' half. Assumes nothing.
+-- The orientation of a row without any place: each entry of a row brings in one new corner of the tetrahedron, and the
+-- row winds as the corners in that order do. It joins the faces' half of demand 3 to the volumes' half. Definitions
+-- only.
+--
+--   order    the corners in the order in which a row's entries bring them in
+--   even     is an order of numbers even
+--   signed   a row, its last two corners exchanged where it would not wind as said
+--   winds    how the corners of a lattice tetrahedron wind, by its edge
 use Prim.Native.Nat.{ℕ}
 use mathlib.Core.Bool.{Bool, true, false, not, _||_, Bool·beq}
 use mathlib.Core.List.{List, [], _∷_, map}
 use lib.Dec.{ltb, eqb}
 use Rattle.basics.specs.Choice.{if_then_else_}
-use Rattle.basics.proofs.Test.{any}
 use Rattle.stencil.specs.Tetrahedron.{Vertex, Quarter, q0, q1, q2, q3}
 use Rattle.stencil.specs.Row.{Row, row, swapped}
-use Rattle.stencil.specs.Stencil.{Entry, between, rank}
+use Rattle.stencil.specs.Stencil.{Entry, point, between, rank}
 
--- the corner that an entry brings in, besides those already seen
+-- is a corner among those already seen
+abbrev pub isIn : List Vertex → Vertex → Bool
+isIn [] u = false
+isIn (w ∷ seen) u = eqb (rank u) (rank w) || isIn seen u
+
+-- the corner that an entry brings in besides those
 unfoldable pub newcomer : List Vertex → Entry Vertex → Vertex
-newcomer seen (between u v) = if any (λ w. eqb (rank u) (rank w)) seen then v else u
+newcomer seen (point v) = v
+newcomer seen (between u v) = if isIn seen u then v else u
 
 unfoldable pub order : Row (Entry Vertex) → List Vertex
 order (row a b c d) =
