@@ -1,12 +1,17 @@
 -- What a decoded point says of the point with its number, and the points of a line. Assumes nothing.
-use Prim.Native.Nat.{ℕ, _+_, _<_}
+use Prim.Native.Nat.{ℕ, _+_, _*_, _<_}
+use native.Mathlib.Omega.{arith}
 use mathlib.Core.Path.{_≡_, sym, ap, subst, _∙_}
+use mathlib.Core.Bool.{Bool, true, false}
+use Rattle.basics.specs.Choice.{if_then_else_}
 use Rattle.lattice.specs.declared.Sizes.{Sizes}
 use Rattle.lattice.specs.declared.Site.{Site}
 use Rattle.lattice.specs.Axis.{along-x}
 use Rattle.lattice.specs.Counts.{Sized, grid, points}
-use Rattle.lattice.specs.Edge.{near, neighbour}
+use Rattle.lattice.specs.Direction.{Code, isStart, directionOf}
+use Rattle.lattice.specs.Edge.{near, neighbour, edgeByte}
 use Rattle.lattice.specs.inner.Site.{index, siteOf, Sited}
+use Rattle.lattice.proofs.Codes.{direction-lt}
 use Rattle.lattice.proofs.Number.{number-lt}
 use Rattle.lattice.proofs.Edge.{near-number}
 use Rattle.lattice.proofs.Sites.{site-inside}
@@ -35,3 +40,12 @@ module _ {s : Sizes} {q t : Site} {x : ℕ} (l : Line s (q .own) q) (i : x < gri
 
   pub along-own : t .own ≡ q .own + x
   along-own = ap (λ (r : Site). r .own) e
+
+-- an edge's byte is in the table
+pub byte-lt : (n p c q : ℕ) → Code c → p < n → q < n → edgeByte p c q < 7 * n
+unfolding edgeByte
+byte-lt n p c q h hp hq = go (isStart c)
+  where
+    go : (t : Bool) → 7 * (if t then p else q) + directionOf c < 7 * n
+    go true = omega (arith, direction-lt c h)
+    go false = omega (arith, direction-lt c h)

@@ -18,16 +18,18 @@ use Rattle.lattice.specs.declared.Near.the-variants.{At, Nothing}
 use Rattle.lattice.specs.Axis.{Axis, along-x, along-y, along-z}
 use Rattle.lattice.specs.Counts.{sizesFit, points}
 use Rattle.lattice.specs.Point.{doubled, kindOf, indexOf}
-use Rattle.lattice.specs.Direction.{Code, isStart, direction, step}
+use Rattle.lattice.specs.Direction.{Code, asStart, isStart, direction, step}
 use Rattle.lattice.specs.Edge.{neighbour, byteAt, edgeByte}
 use Rattle.lattice.proofs.Codes.{one-way}
 use Rattle.lattice.proofs.Edge.{far}
-use Rattle.moving.specs.Violation.{measured, violates}
+use Rattle.moving.specs.Violation.{rule1, measured, violates}
+use Rattle.moving.specs.Reading.{isMove}
+use Rattle.moving.proofs.Bytes.{code-move, zero-rests}
 use Rattle.geometry.specs.Place.{latticePlace, rest, cutPlace, movedPlace, pointPlace, placeOf}
-use Rattle.filling.specs.Located.{reaches, believable, standsTo, stands, idFault, locate}
+use Rattle.filling.specs.Located.{placed, unplaced, reaches, believable, standsTo, stands, idFault, locate}
 use Rattle.ground.specs.declared.Place.{Place}
 use Rattle.ground.specs.inner.Places.{placeAt, along, Nonnegative}
-use Rattle.places.specs.inner.Answer.{placedAt, refusedWith, movedAnswer, pointAnswer, cutAnswer}
+use Rattle.places.specs.inner.Answer.{movedAnswer, pointAnswer, cutAnswer}
 use Rattle.places.proofs.FromEnd.{moved-along, cut-along}
 
 -- an integer that is a natural number
@@ -35,7 +37,12 @@ natural : {z : ℤ} (n : ℕ) → z ≡ pos n → z ≡ pos (natAbs z)
 natural n e = rw e refl
 
 pub upward : (r : Place) (n : Axis → ℕ) → ((a : Axis) → placeAt r a ≡ pos (n a)) → Nonnegative r
-upward r n h = record { x-up = natural (n along-x) (h along-x); y-up = natural (n along-y) (h along-y); z-up = natural (n along-z) (h along-z) }
+upward r n h =
+    record {
+      x-up = natural (n along-x) (h along-x);
+      y-up = natural (n along-y) (h along-y);
+      z-up = natural (n along-z) (h along-z);
+    }
 
 -- a lattice place is not below 0, nor is a place on an edge of the block
 pub rest-up : (s : Sizes) (p : ℕ) (r : Place) → placeAt r ≡ rest s p → Nonnegative r
@@ -57,7 +64,9 @@ pub along-up : (s : Sizes) (p c q t : ℕ) → p < points s → Code c → neigh
 unfolding along latticePlace
 along-up s p c q t h g e l r is =
     upward r (λ a. 256 * x a + t * step c a .up - t * step c a .down)
-    (λ a. ap (λ (f : Axis → ℤ). f a) is ∙ down-up (x a) (step c a .up) (step c a .down) t l (one-way c g a) (omega (arith, far s p c q h g e .leads a)))
+    (λ a.
+    let leads = far s p c q h g e .leads a in
+    ap (λ (f : Axis → ℤ). f a) is ∙ down-up (x a) (step c a .up) (step c a .down) t l (one-way c g a) (omega arith))
   where
     x : Axis → ℕ
     x a = doubled (kindOf s p) (indexOf s p a)
@@ -72,38 +81,37 @@ measured-small c t h = go (isStart c)
     go false = omega arith
 
 module _ (s : Sizes) (cuts : List ℕ) (p c : ℕ) where
-  pub moved-none : neighbour s p c ≡ Nothing → refusedWith 9 ≡ movedAnswer s cuts p c (neighbour s p c)
+  pub moved-none : neighbour s p c ≡ Nothing → unplaced 9 ≡ movedAnswer s cuts p c (neighbour s p c)
   unfolding movedAnswer
   moved-none e = rw e refl
 
   module _ (q t : ℕ) (e : neighbour s p c ≡ At q) (byte : t ≡ getD cuts (edgeByte p c q) 0) where
-    pub moved-far : violates c t ≡ false → refusedWith 9 ≡ movedAnswer s cuts p c (neighbour s p c)
+    pub moved-far : violates rule1 c t ≡ false → unplaced 9 ≡ movedAnswer s cuts p c (neighbour s p c)
     unfolding movedAnswer
     moved-far v = rw (e, rw byte at v) refl
 
-    pub moved-answer : p < points s → Code c → t ≤ 256 → violates c t ≡ true → (r : Place)
-        → placeAt r ≡ along (rest s p) (step c) (measured c t) → placedAt (placeAt r) ≡ movedAnswer s cuts p c (neighbour s p c)
+    pub moved-answer : p < points s → Code c → t ≤ 256 → violates rule1 c t ≡ true → (r : Place)
+        → placeAt r ≡ along (rest s p) (step c) (measured c t) → placed (placeAt r) ≡ movedAnswer s cuts p c (neighbour s p c)
     unfolding movedAnswer
     moved-answer h g l v r is =
-        rw (e, rw byte at v)
-        (ap placedAt (is ∙ ap (λ (n : ℕ). along (rest s p) (step c) (measured c n)) byte ∙ sym (moved-along s cuts p c q h g e (rw byte at l))))
+        let by-byte = ap (λ (n : ℕ). along (rest s p) (step c) (measured c n)) byte in
+        rw (e, rw byte at v) (ap placed (is ∙ by-byte ∙ sym (moved-along s cuts p c q h g e (rw byte at l))))
 
 -- a point
 module _ (s : Sizes) (cuts state : List ℕ) (p : ℕ) where
-  pub point-rests : getD state p 0 ≡ 0 → (r : Place) → placeAt r ≡ rest s p → placedAt (placeAt r) ≡ pointAnswer s cuts state p
+  pub point-rests : getD state p 0 ≡ 0 → (r : Place) → placeAt r ≡ rest s p → placed (placeAt r) ≡ pointAnswer s cuts state p
   unfolding pointAnswer believable pointPlace
-  point-rests z r is = rw (eq-eqb _ _ z) (ap placedAt is)
+  point-rests z r is = rw (eq-eqb _ _ z, zero-rests _ z) (ap placed is)
 
-  pub point-strange : 14 < getD state p 0 → refusedWith 9 ≡ pointAnswer s cuts state p
-  unfolding pointAnswer believable
-  point-strange l = rw (ne-eqb (getD state p 0) 0 (λ z. omega arith), lt-leb _ _ l) refl
+  pub point-strange : 14 < getD state p 0 → unplaced 9 ≡ pointAnswer s cuts state p
+  unfolding pointAnswer believable isMove
+  point-strange l = rw (ne-eqb (getD state p 0) 0 (λ z. omega arith), lt-leb _ _ l, le-leb 1 (getD state p 0) (omega arith)) refl
 
-  pub point-moved : (c : ℕ) → c ≡ getD state p 0 → (c ≡ 0 → ⊥) → c ≤ 14
-      → movedAnswer s cuts p c (neighbour s p c) ≡ pointAnswer s cuts state p
+  pub point-moved : (c : ℕ) → c ≡ getD state p 0 → Code c → movedAnswer s cuts p c (neighbour s p c) ≡ pointAnswer s cuts state p
   unfolding pointAnswer believable pointPlace movedAnswer reaches
-  point-moved c e n l = rw (sym e, ne-eqb c 0 n, le-leb c 14 l) (go (neighbour s p c))
+  point-moved c e k = rw (sym e, ne-eqb c 0 (λ z. omega (arith, k .low)), code-move c k) (go (neighbour s p c))
     where
-      go : (n : Near) → movedAnswer s cuts p c n ≡ (if reaches s cuts state p c n then placedAt (movedPlace s cuts p c n) else refusedWith 9)
+      go : (n : Near) → movedAnswer s cuts p c n ≡ (if reaches s cuts state p c n then placed (movedPlace s cuts p c n) else unplaced 9)
       go Nothing = refl
       go (At q) = refl
 
@@ -113,64 +121,65 @@ module _ (s : Sizes) (cuts state : List ℕ) (o : ℕ) where
   start = o / 7
 
   abbrev end : Near
-  end = neighbour s (o / 7) (o % 7 + 1)
+  end = neighbour s (o / 7) (asStart (o % 7))
 
   own : byteAt (o / 7) (o % 7) ≡ o
   own = omega arith
 
-  pub cut-none : end ≡ Nothing → refusedWith 8 ≡ cutAnswer s cuts state o
+  pub cut-none : end ≡ Nothing → unplaced 8 ≡ cutAnswer s cuts state o
   unfolding cutAnswer stands standsTo
   cut-none e = rw e refl
 
-  pub cut-absent : getD cuts o 0 ≡ 0 → refusedWith 8 ≡ cutAnswer s cuts state o
+  pub cut-absent : getD cuts o 0 ≡ 0 → unplaced 8 ≡ cutAnswer s cuts state o
   unfolding cutAnswer stands standsTo
   cut-absent z = go end
     where
-      go : (n : Near) → refusedWith 8 ≡ (if standsTo s cuts state (o / 7) (o % 7) n then placedAt (cutPlace s cuts (o / 7) (o % 7)) else refusedWith 8)
+      go : (n : Near) → unplaced 8 ≡ (if standsTo s cuts state (o / 7) (o % 7) n then placed (cutPlace s cuts (o / 7) (o % 7)) else unplaced 8)
       go Nothing = refl
       go (At q) = rw (own, eq-eqb _ _ z) refl
 
-  pub cut-moved : (getD state (o / 7) 0 ≡ 0 → ⊥) → refusedWith 8 ≡ cutAnswer s cuts state o
+  pub cut-moved : (getD state (o / 7) 0 ≡ 0 → ⊥) → unplaced 8 ≡ cutAnswer s cuts state o
   unfolding cutAnswer stands standsTo
   cut-moved n = go end (eqb (getD cuts (byteAt (o / 7) (o % 7)) 0) 0) refl
     where
       go : (n : Near) (z : Bool) → eqb (getD cuts (byteAt (o / 7) (o % 7)) 0) 0 ≡ z
-          → refusedWith 8 ≡ (if standsTo s cuts state (o / 7) (o % 7) n then placedAt (cutPlace s cuts (o / 7) (o % 7)) else refusedWith 8)
+          → unplaced 8 ≡ (if standsTo s cuts state (o / 7) (o % 7) n then placed (cutPlace s cuts (o / 7) (o % 7)) else unplaced 8)
       go Nothing z e = refl
       go (At q) true e = rw e refl
       go (At q) false e = rw (e, ne-eqb _ _ n) refl
 
   module _ (q : ℕ) (e : end ≡ At q) (b : getD cuts o 0 ≡ 0 → ⊥) (n : getD state (o / 7) 0 ≡ 0) where
-    pub cut-ends : (getD state q 0 ≡ 0 → ⊥) → refusedWith 8 ≡ cutAnswer s cuts state o
+    pub cut-ends : (getD state q 0 ≡ 0 → ⊥) → unplaced 8 ≡ cutAnswer s cuts state o
     unfolding cutAnswer stands standsTo
     cut-ends m = rw (e, own, ne-eqb _ _ b, eq-eqb _ _ n, ne-eqb _ _ m) refl
 
     pub cut-answer : getD state q 0 ≡ 0 → (r : Place) → placeAt r ≡ along (rest s (o / 7)) (direction (o % 7)) (getD cuts o 0)
-        → placedAt (placeAt r) ≡ cutAnswer s cuts state o
+        → placed (placeAt r) ≡ cutAnswer s cuts state o
     unfolding cutAnswer stands standsTo
     cut-answer m r is =
+        let by-own = ap (λ (i : ℕ). along (rest s (o / 7)) (direction (o % 7)) (getD cuts i 0)) own in
         rw (e, own, ne-eqb _ _ b, eq-eqb _ _ n, eq-eqb _ _ m)
-        (ap placedAt (is ∙ sym (cut-along s cuts (o / 7) (o % 7) ∙ ap (λ (i : ℕ). along (rest s (o / 7)) (direction (o % 7)) (getD cuts i 0)) own)))
+        (ap placed (is ∙ sym (cut-along s cuts (o / 7) (o % 7) ∙ by-own)))
 
 -- the call
 module _ (s : Sizes) (cuts state : List ℕ) (id : ℕ) where
-  pub call-size : sizesFit s ≡ false → refusedWith 1 ≡ locate s cuts state id
+  pub call-size : sizesFit s ≡ false → unplaced 1 ≡ locate s cuts state id
   unfolding locate
   call-size e = rw e refl
 
   module _ (f : sizesFit s ≡ true) where
-    pub call-cuts : (length cuts ≡ 7 * points s → ⊥) → refusedWith 3 ≡ locate s cuts state id
+    pub call-cuts : (length cuts ≡ 7 * points s → ⊥) → unplaced 3 ≡ locate s cuts state id
     unfolding locate
     call-cuts n = rw (f, ne-eqb _ _ n) refl
 
     module _ (lc : length cuts ≡ 7 * points s) where
-      pub call-state : (length state ≡ points s → ⊥) → refusedWith 4 ≡ locate s cuts state id
+      pub call-state : (length state ≡ points s → ⊥) → unplaced 4 ≡ locate s cuts state id
       unfolding locate
       call-state n = rw (f, eq-eqb _ _ lc, ne-eqb _ _ n) refl
 
       module _ (ls : length state ≡ points s) where
         called : locate s cuts state id
-            ≡ (if eqb (idFault s cuts state id) 0 then placedAt (placeOf s cuts state id) else refusedWith (idFault s cuts state id))
+            ≡ (if eqb (idFault s cuts state id) 0 then placed (placeOf s cuts state id) else unplaced (idFault s cuts state id))
         unfolding locate
         called = rw (f, eq-eqb _ _ lc, eq-eqb _ _ ls) refl
 
@@ -178,8 +187,8 @@ module _ (s : Sizes) (cuts state : List ℕ) (id : ℕ) where
         unfolding pointAnswer idFault placeOf
         call-point l = rw (called, lt-ltb _ _ l) (go (believable s cuts state id))
           where
-            go : (z : Bool) → (if z then placedAt (pointPlace s cuts state id) else refusedWith 9)
-                ≡ (if eqb (if z then 0 else 9) 0 then placedAt (pointPlace s cuts state id) else refusedWith (if z then 0 else 9))
+            go : (z : Bool) → (if z then placed (pointPlace s cuts state id) else unplaced 9)
+                ≡ (if eqb (if z then 0 else 9) 0 then placed (pointPlace s cuts state id) else unplaced (if z then 0 else 9))
             go true = refl
             go false = refl
 
@@ -190,11 +199,11 @@ module _ (s : Sizes) (cuts state : List ℕ) (id : ℕ) where
             at : Axis → ℤ
             at = cutPlace s cuts ((id - points s) / 7) ((id - points s) % 7)
 
-            go : (z : Bool) → (if z then placedAt at else refusedWith 8)
-                ≡ (if eqb (if z then 0 else 8) 0 then placedAt at else refusedWith (if z then 0 else 8))
+            go : (z : Bool) → (if z then placed at else unplaced 8)
+                ≡ (if eqb (if z then 0 else 8) 0 then placed at else unplaced (if z then 0 else 8))
             go true = refl
             go false = refl
 
-        pub call-past : 8 * points s ≤ id → refusedWith 8 ≡ locate s cuts state id
+        pub call-past : 8 * points s ≤ id → unplaced 8 ≡ locate s cuts state id
         unfolding idFault
         call-past l = rw (called, le-ltb id (points s) (omega arith), le-leb _ _ l) refl

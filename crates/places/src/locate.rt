@@ -14,14 +14,14 @@ ghost use lib.ListN.{length};
 ghost use Rattle.lattice.specs.Counts.{Sized, points};
 ghost use Rattle.lattice.specs.Direction.{Code};
 ghost use Rattle.lattice.specs.Edge.{neighbour};
-ghost use Rattle.filling.specs.Located.{locate};
 ghost use Rattle.ground.specs.inner.Places.{placeAt, InBox, placeBox, Nonnegative};
-ghost use Rattle.places.specs.inner.Answer.{placedAt, refusedWith, movedAnswer, pointAnswer, cutAnswer};
+ghost use Rattle.filling.specs.Located.{placed, unplaced, locate};
+ghost use Rattle.places.specs.inner.Answer.{movedAnswer, pointAnswer, cutAnswer};
 
 fn answered(p: Place) -> Placed
     requires { ⌜ InBox placeBox p ⌝ }
     requires { ⌜ Nonnegative p ⌝ }
-    ensures { λ r. ⌜ r ≡ placedAt (placeAt p) ⌝ }
+    ensures { λ r. ⌜ r ≡ placed (placeAt p) ⌝ }
 {
     Placed {
         number: 0,
@@ -32,7 +32,7 @@ fn answered(p: Place) -> Placed
 }
 
 fn refused(number: u32) -> Placed
-    ensures { λ r. ⌜ r ≡ refusedWith number ⌝ }
+    ensures { λ r. ⌜ r ≡ unplaced number ⌝ }
 {
     Placed {
         number,

@@ -2,35 +2,26 @@
 -- That these are `locate` of crates/filling is shown in proofs/Answers.antt.
 use Prim.Native.Nat.{ℕ, _/_, _%_}
 use mathlib.Core.List.{List}
-use lib.IntN.{ℤ, natAbs}
 use lib.ListN.{getD}
 use Rattle.basics.specs.Choice.{if_then_else_}
 use Rattle.lattice.specs.declared.Sizes.{Sizes}
 use Rattle.lattice.specs.declared.Near.{Near}
 use Rattle.lattice.specs.declared.Near.the-variants.{At, Nothing}
-use Rattle.lattice.specs.Axis.{Axis, along-x, along-y, along-z}
 use Rattle.lattice.specs.Edge.{edgeByte}
-use Rattle.moving.specs.Violation.{violates}
+use Rattle.moving.specs.Violation.{rule1, violates}
 use Rattle.geometry.specs.Place.{cutPlace, movedPlace, pointPlace}
 use Rattle.filling.specs.declared.Placed.{Placed}
-use Rattle.filling.specs.Located.{believable, stands}
-
-abbrev pub placedAt : (Axis → ℤ) → Placed
-placedAt p = record { number = 0; x = natAbs (p along-x); y = natAbs (p along-y); z = natAbs (p along-z) }
-
--- "a refusal's place is (0,0,0)"
-abbrev pub refusedWith : ℕ → Placed
-refusedWith n = record { number = n; x = 0; y = 0; z = 0 }
+use Rattle.filling.specs.Located.{placed, unplaced, believable, stands}
 
 -- the point p with a code that leads to a far end or to nothing
 unfoldable pub movedAnswer : Sizes → List ℕ → ℕ → ℕ → Near → Placed
-movedAnswer s cuts p c Nothing = refusedWith 9
+movedAnswer s cuts p c Nothing = unplaced 9
 movedAnswer s cuts p c (At q) =
-    if violates c (getD cuts (edgeByte p c q) 0) then placedAt (movedPlace s cuts p c (At q)) else refusedWith 9
+    if violates rule1 c (getD cuts (edgeByte p c q) 0) then placed (movedPlace s cuts p c (At q)) else unplaced 9
 
 unfoldable pub pointAnswer : Sizes → List ℕ → List ℕ → ℕ → Placed
-pointAnswer s cuts state p = if believable s cuts state p then placedAt (pointPlace s cuts state p) else refusedWith 9
+pointAnswer s cuts state p = if believable s cuts state p then placed (pointPlace s cuts state p) else unplaced 9
 
 -- the cut of the byte at offset o
 unfoldable pub cutAnswer : Sizes → List ℕ → List ℕ → ℕ → Placed
-cutAnswer s cuts state o = if stands s cuts state o then placedAt (cutPlace s cuts (o / 7) (o % 7)) else refusedWith 8
+cutAnswer s cuts state o = if stands s cuts state o then placed (cutPlace s cuts (o / 7) (o % 7)) else unplaced 8

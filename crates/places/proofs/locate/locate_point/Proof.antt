@@ -42,8 +42,10 @@ moved-point-requires c κs = search needs
 returns-2 : tie.Need-returns-2
 returns-2 c =
     let a = c .before .before .before .before .before .before in
+    let some = c .before .before .if1 .left in
     c .moved-point .ensures
-    ∙ point-moved (a .args .s) (a .args .cuts .now) (a .args .state .now) (a .args .p) _ refl (c .before .before .if1 .left) (c .before .if2 .taken)
+    ∙ point-moved (a .args .s) (a .args .cuts .now) (a .args .state .now) (a .args .p) _ refl
+    (record { low = omega (arith, some); high = c .before .if2 .taken })
 
 refused-requires : tie.Need-refused-requires
 refused-requires c κs = search needs
