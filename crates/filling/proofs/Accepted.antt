@@ -32,16 +32,16 @@ fault-le s label cuts o = go (crosses s label (o / 7) (o % 7)) (eqb (getD cuts o
     go false false = omega arith
 
 -- a block's labels, and its first faults
-abbrev labelIn : Block → ℕ → Label
+abbrev pub labelIn : Block → ℕ → Label
 labelIn b = labels (b .samples)
 
-abbrev faultIn : Block → ℕ → ℕ
+abbrev pub faultIn : Block → ℕ → ℕ
 faultIn b = cutFault (b .sizes) (labelIn b) (b .cuts)
 
-abbrev rimOf : Block → ℕ
+abbrev pub rimOf : Block → ℕ
 rimOf b = firstRim (b .sizes) (labelIn b)
 
-abbrev cutOf : Block → ℕ
+abbrev pub cutOf : Block → ℕ
 cutOf b = firstCut (b .sizes) (labelIn b) (b .cuts)
 
 faulty : Block → ℕ → Bool

@@ -13,8 +13,8 @@ use Rattle.basics.proofs.Mapped.{from-length}
 use Rattle.lattice.specs.declared.Sizes.{Sizes}
 use Rattle.lattice.specs.Axis.{Axis, along-x, along-y, along-z}
 use Rattle.lattice.specs.Counts.{size, tetrahedra}
-use Rattle.moving.specs.Block.{Block}
-use Rattle.moving.specs.Moving.{stateOf}
+use Rattle.moving.specs.declared.Label.{Label}
+use Rattle.moving.specs.Block.{Block, readingOf}
 use Rattle.stencil.specs.Tetrahedron.{
   Tetrahedron,
   Vertex,
@@ -41,8 +41,8 @@ use Rattle.stencil.specs.Stencil.{
   rowsFor,
 }
 use Rattle.stencil.specs.Id.{idOf}
-use Rattle.geometry.specs.Place.{placeOf}
-use Rattle.filling.specs.Mesh.{labelsIn, oriented, rowsIn, rowsWith, meshOf}
+use Rattle.geometry.specs.Place.{Place}
+use Rattle.filling.specs.Mesh.{labelsIn, oriented, rowsIn, rowsOver, meshOf}
 use Rattle.filling.specs.Fill.{Outcome, written, fill}
 use Rattle.filling.proofs.Accepted.{passed-all}
 
@@ -104,24 +104,23 @@ rows-of-most +--- p m z c = omega arith
 rows-of-most +--0 p m z c = omega arith
 rows-of-most +-00 p m z c = omega arith
 
-module _ (b : Block) (state : List ℕ) where
-  rows-in-most : (t : Tetrahedron) → length (rowsIn b state t) ≤ 3
+module _ (s : Sizes) (label : ℕ → Label) (place : ℕ → Place) where
+  rows-in-most : (t : Tetrahedron) → length (rowsIn s label place t) ≤ 3
   unfolding rowsIn rowsFor
   rows-in-most t =
-      rw (
-        length-map (map (mapRow (idOf (b .sizes) t)) (rowsFor (labelsIn b state t))) (oriented (placeOf (b .sizes) (b .cuts) state)),
-        length-map (rowsFor (labelsIn b state t)) (mapRow (idOf (b .sizes) t)),
-      )
-      (rows-of-most _ _ _ _ _)
+      let rows = rowsFor (labelsIn s label t) in
+      rw (length-map (map (mapRow (idOf s t)) rows) (oriented place), length-map rows (mapRow (idOf s t))) (rows-of-most _ _ _ _ _)
 
-  pub rows-most : length (rowsWith b state) ≤ 3 * tetrahedra (b .sizes)
-  unfolding rowsWith
-  rows-most = omega (arith, gather-most (rowsIn b state) 3 (tetrahedraOf (b .sizes)) rows-in-most, listed-count (b .sizes))
+  pub rows-most : length (rowsOver s label place) ≤ 3 * tetrahedra s
+  unfolding rowsOver
+  rows-most = omega (arith, gather-most (rowsIn s label place) 3 (tetrahedraOf s) rows-in-most, listed-count s)
 
-pub long-enough-always : (b : Block) (state rows : List ℕ) → 12 * tetrahedra (b .sizes) ≤ length rows → fill b state rows .answer .number ≡ 10 → ⊥
+pub long-enough-always : (b : Block) (state rows : List ℕ) → 12 * tetrahedra (b .sizes) ≤ length rows
+    → fill b state rows .answer .number ≡ 10 → ⊥
 unfolding written
 long-enough-always b state rows h e =
     let w = passed-all b state rows 10 (inr refl) e .is in
-    let fits = le-leb (4 * length (meshOf b)) (length rows) (omega (arith, rows-most b (stateOf b))) in
+    let most = rows-most (b .sizes) _ _ in
+    let fits = le-leb (4 * length (meshOf (readingOf b))) (length rows) (omega arith) in
     let z : _≡_ {A = ℕ} 0 10 = rw fits at (sym (ap (λ (o : Outcome). o .answer .number) w) ∙ e) in
     omega arith

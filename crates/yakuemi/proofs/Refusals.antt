@@ -8,17 +8,22 @@ use borrow.Author.Tests.{eq-eqb, ne-eqb, lt-ltb, le-ltb}
 use Rattle.lattice.specs.Counts.{sizesFit, points}
 use Rattle.moving.specs.Block.{Block}
 use Rattle.filling.specs.declared.Filled.{Filled}
-use Rattle.filling.specs.Check.{cutFault, firstRim, firstCut}
 use Rattle.filling.specs.Fill.{Outcome, refused, written, fill}
+use Rattle.filling.proofs.Accepted.{faultIn, rimOf, cutOf}
 use Rattle.yakuemi.specs.inner.Fills.{Fills}
 
 module _ (b : Block) (state rows : List ℕ) where
   -- an outcome, part by part
   pub fills : (o : Outcome) → fill b state rows ≡ o → Fills b state rows (o .answer) (o .state) (o .rows)
   fills o e =
-      record { answer = sym (ap (λ (o : Outcome). o .answer) e); state-is = sym (ap (λ (o : Outcome). o .state) e); rows-are = sym (ap (λ (o : Outcome). o .rows) e) }
+      record {
+        answer = sym (ap (λ (o : Outcome). o .answer) e);
+        state-is = sym (ap (λ (o : Outcome). o .state) e);
+        rows-are = sym (ap (λ (o : Outcome). o .rows) e);
+      }
 
-  pub refusal : (n at : ℕ) → fill b state rows ≡ refused b state rows n at → Fills b state rows (record { number = n; rows = 0; moved = 0; place = at }) state rows
+  pub refusal : (n at : ℕ) → fill b state rows ≡ refused b state rows n at
+      → Fills b state rows (record { number = n; rows = 0; moved = 0; place = at }) state rows
   refusal n at e = fills (refused b state rows n at) e
 
   pub by-size : sizesFit (b .sizes) ≡ false → fill b state rows ≡ refused b state rows 1 0
@@ -41,16 +46,16 @@ module _ (b : Block) (state rows : List ℕ) where
         by-state n = simp (fit, eq-eqb _ _ samples, eq-eqb _ _ cuts, ne-eqb _ _ n)
 
         module _ (long : length state ≡ points (b .sizes)) where
-          pub by-rim : firstRim b < points (b .sizes) → fill b state rows ≡ refused b state rows 5 (firstRim b)
+          pub by-rim : rimOf b < points (b .sizes) → fill b state rows ≡ refused b state rows 5 (rimOf b)
           unfolding fill
           by-rim h = simp (fit, eq-eqb _ _ samples, eq-eqb _ _ cuts, eq-eqb _ _ long, lt-ltb _ _ h)
 
-          pub by-byte : points (b .sizes) ≤ firstRim b → firstCut b < 7 * points (b .sizes)
-              → fill b state rows ≡ refused b state rows (cutFault b (firstCut b)) (firstCut b)
+          pub by-byte : points (b .sizes) ≤ rimOf b → cutOf b < 7 * points (b .sizes)
+              → fill b state rows ≡ refused b state rows (faultIn b (cutOf b)) (cutOf b)
           unfolding fill
           by-byte r h = simp (fit, eq-eqb _ _ samples, eq-eqb _ _ cuts, eq-eqb _ _ long, le-ltb _ _ r, lt-ltb _ _ h)
 
-          pub by-none : points (b .sizes) ≤ firstRim b → 7 * points (b .sizes) ≤ firstCut b → fill b state rows ≡ written b state rows
+          pub by-none : points (b .sizes) ≤ rimOf b → 7 * points (b .sizes) ≤ cutOf b → fill b state rows ≡ written b state rows
           unfolding fill
           by-none r h = simp (fit, eq-eqb _ _ samples, eq-eqb _ _ cuts, eq-eqb _ _ long, le-ltb _ _ r, le-ltb _ _ h)
 

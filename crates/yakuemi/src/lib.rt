@@ -4,6 +4,7 @@ mod fill;
 mod measures;
 mod place;
 mod read;
+mod steps;
 
 pub use fill::yakuemi_fill;
 pub use measures::Measures;
