@@ -1,114 +1,141 @@
--- The search for the first fault: a byte at a time, a part at a time, and what it finds. Assumes nothing.
-use Prim.Native.Nat.{ℕ, zero, suc, _+_, _*_, _-_, _≤_, _<_}
+-- Bytes at fault: of a point, of a line, of a table. Assumes nothing.
+--     gap-at, none-at, stray-at, cut-at     a byte that is zero or not, where there must be a cut or must be none
+--     byte-fine                             the same for a byte of a table
+--     fine-of, gap-of, stray-of             what an answer says
+--     wide, raise-fine, raise-wrong         an answer of a part in the whole
+--     seven-is                              a point's seven bytes in the table
+--     answer-fine, answer-gap, answer-stray the answer for a whole table
+use Prim.Native.Nat.{ℕ, _+_, _*_, _-_, _/_, _%_, _≤_, _<_}
 use native.Mathlib.Omega.{arith}
-use native.Mathlib.Nat.{add-zero}
-use mathlib.Core.Path.{_≡_, refl, sym, ap, _∙_}
+use mathlib.Core.Path.{_≡_, refl, sym, ap, subst, _∙_}
 use mathlib.Core.Bool.{Bool, true, false, not}
+use mathlib.Core.List.{List}
 use lib.Dec.{eqb, ltb}
+use lib.ListN.{getD, take, drop}
+use lib.Seq.{getD-take, getD-drop}
 use borrow.Author.Tests.{eq-eqb, ne-eqb, lt-ltb, le-ltb}
 use Rattle.basics.specs.Choice.{if_then_else_}
-use Rattle.basics.specs.Lists.{firstFrom}
+use Rattle.lattice.specs.declared.Sizes.{Sizes}
+use Rattle.lattice.specs.Counts.{points}
+use Rattle.lattice.proofs.Sites.{by-direction}
+use Rattle.moving.specs.declared.Label.{Label}
+use Rattle.filling.specs.Check.{crosses, cutFault, firstCut}
 use Rattle.checks.specs.declared.Fault.{Fault}
 use Rattle.checks.specs.declared.Fault.the-variants.{Fine, Gap, Stray}
-use Rattle.checks.specs.inner.Faults.{numberOf, placeOf, faultAt, orElse, firstFault}
+use Rattle.checks.specs.inner.Search.{Throughout}
+use Rattle.checks.specs.inner.Faults.{CutAnswer, Wrong, Answered, fine, gap, stray, numberAt, sevenFault, crossingsAt}
+use Rattle.checks.proofs.Search.{none-yet, joined, here, first-lowest, none-lowest}
 
--- a byte that is zero or not, where there must be a cut or must be none
-pub gap-at : (o byte : ℕ) {must : Bool} → byte ≡ 0 → must ≡ true → faultAt o must byte ≡ Gap o
-unfolding faultAt
-gap-at o byte e m = simp (m, eq-eqb byte 0 e)
+module _ (must : List Bool) (bytes : List ℕ) (d : ℕ) where
+  pub gap-at : getD must d false ≡ true → getD bytes d 0 ≡ 0 → sevenFault must bytes d ≡ 6
+  unfolding sevenFault numberAt
+  gap-at m e = simp (m, eq-eqb _ 0 e)
 
-pub none-at : (o byte : ℕ) {must : Bool} → byte ≡ 0 → must ≡ false → faultAt o must byte ≡ Fine
-unfolding faultAt
-none-at o byte e m = simp (m, eq-eqb byte 0 e)
+  pub none-at : getD must d false ≡ false → getD bytes d 0 ≡ 0 → sevenFault must bytes d ≡ 0
+  unfolding sevenFault numberAt
+  none-at m e = simp (m, eq-eqb _ 0 e)
 
-pub stray-at : (o byte : ℕ) {must : Bool} → (byte ≡ 0 → ⊥) → must ≡ false → faultAt o must byte ≡ Stray o
-unfolding faultAt
-stray-at o byte e m = simp (m, ne-eqb byte 0 e)
+  pub stray-at : getD must d false ≡ false → (getD bytes d 0 ≡ 0 → ⊥) → sevenFault must bytes d ≡ 7
+  unfolding sevenFault numberAt
+  stray-at m e = simp (m, ne-eqb _ 0 e)
 
-pub cut-at : (o byte : ℕ) {must : Bool} → (byte ≡ 0 → ⊥) → must ≡ true → faultAt o must byte ≡ Fine
-unfolding faultAt
-cut-at o byte e m = simp (m, ne-eqb byte 0 e)
+  pub cut-at : getD must d false ≡ true → (getD bytes d 0 ≡ 0 → ⊥) → sevenFault must bytes d ≡ 0
+  unfolding sevenFault numberAt
+  cut-at m e = simp (m, ne-eqb _ 0 e)
 
--- the number of a byte's fault
-abbrev pub numberAt : Bool → ℕ → ℕ
-numberAt must byte = if must then (if eqb byte 0 then 6 else 0) else (if eqb byte 0 then 0 else 7)
-
-module _ (must : ℕ → Bool) (byte : ℕ → ℕ) where
-  -- one byte on
-  pub fault-over : (n o : ℕ) {f : Fault} → o < n → faultAt o (must o) (byte o) ≡ f
-      → orElse f (firstFault must byte (n - (o + 1)) (o + 1)) ≡ firstFault must byte (n - o) o
-  unfolding firstFault
-  fault-over n o h e =
-      let g : n - o ≡ suc (n - (o + 1)) = omega arith in
-      rw (g, e) refl
-
-  pub fault-end : (n o : ℕ) → n ≤ o → firstFault must byte (n - o) o ≡ Fine
-  unfolding firstFault
-  fault-end n o h = let e : n - o ≡ 0 = omega arith in rw e refl
-
-  -- so many bytes and then so many more
-  pub fault-split : (n m o : ℕ) → firstFault must byte (n + m) o ≡ orElse (firstFault must byte n o) (firstFault must byte m (o + n))
-  unfolding firstFault
-  fault-split zero m o = let e : 0 + m ≡ m = omega arith in rw (e, add-zero o) refl
-  fault-split (suc n) m o =
-      let e : suc n + m ≡ suc (n + m) = omega arith in
-      let f : o + suc n ≡ o + 1 + n = omega arith in
-      rw (e, f, fault-split n m (o + 1)) (assoc (faultAt o (must o) (byte o)) (firstFault must byte n (o + 1)) (firstFault must byte m (o + 1 + n)))
+-- what an answer says, by the fault that it is
+module _ {fault : ℕ → ℕ} {a e : ℕ} {r : Fault} (w : Answered fault a e r) where
+  pub fine-of : r ≡ Fine → Throughout fault 0 a e
+  fine-of h = go (subst (Answered fault a e) h w)
     where
-      assoc : (x y z : Fault) → orElse x (orElse y z) ≡ orElse (orElse x y) z
-      assoc Fine y z = refl
-      assoc (Gap i) y z = refl
-      assoc (Stray i) y z = refl
+      go : Answered fault a e Fine → Throughout fault 0 a e
+      go (fine t) = t
 
-  -- what is found before e is the lowest number that has a fault, and that fault's number
-  pub record Found (e k : ℕ) (r : Fault) : Type 0 where
-    pub place : placeOf e r ≡ k
-    pub number : numberOf r ≡ (if ltb k e then numberAt (must k) (byte k) else 0)
+  pub gap-of : {o : ℕ} → r ≡ Gap o → Wrong fault a e 6 o
+  gap-of {o} h = go (subst (Answered fault a e) h w)
+    where
+      go : Answered fault a e (Gap o) → Wrong fault a e 6 o
+      go (gap t) = t
 
-  abbrev pub wrong : ℕ → Bool
-  wrong o = not (eqb (numberAt (must o) (byte o)) 0)
+  pub stray-of : {o : ℕ} → r ≡ Stray o → Wrong fault a e 7 o
+  stray-of {o} h = go (subst (Answered fault a e) h w)
+    where
+      go : Answered fault a e (Stray o) → Wrong fault a e 7 o
+      go (stray t) = t
 
-  found-step : (o e k : ℕ) (r : Fault) → o < e → Found e k r → (m z : Bool) → must o ≡ m → eqb (byte o) 0 ≡ z
-      → Found e (if not (eqb (if m then (if z then 6 else 0) else (if z then 0 else 7)) 0) then o else k)
-      (orElse (if m then (if z then Gap o else Fine) else (if z then Fine else Stray o)) r)
-  found-step o e k r h f true true p q = record { place = refl; number = simp (lt-ltb _ _ h, p, q) }
-  found-step o e k r h f true false p q = f
-  found-step o e k r h f false true p q = f
-  found-step o e k r h f false false p q = record { place = refl; number = simp (lt-ltb _ _ h, p, q) }
+-- the first fault of a part, where nothing was before it
+pub wrong-here : {fault : ℕ → ℕ} {e n o : ℕ} → o < e → fault o ≡ n → Throughout fault 0 0 o → Wrong fault 0 e n o
+wrong-here h i t = record { low = omega arith; high = h; number = i; before = t }
 
-  pub found : (n o e : ℕ) → e ≡ o + n → Found e (firstFrom wrong n o) (firstFault must byte n o)
-  unfolding firstFrom firstFault faultAt
-  found zero o e h = let g : e ≤ o = omega arith in record { place = omega arith; number = simp (le-ltb _ _ g) }
-  found (suc n) o e h =
-      found-step o e (firstFrom wrong n (o + 1)) (firstFault must byte n (o + 1)) (omega arith) (found n (o + 1) e (omega arith))
-      (must o) (eqb (byte o) 0) refl refl
+-- the first fault of a part is that of the whole, if there is none before the part
+pub wide : {fault : ℕ → ℕ} {b a e z n o : ℕ} → Throughout fault 0 b a → b ≤ a → e ≤ z → Wrong fault a e n o → Wrong fault b z n o
+wide t h i w =
+    record { low = omega (arith, w .low); high = omega (arith, w .high); number = w .number; before = joined t (w .before) }
 
--- an offset within a part that starts at a
-abbrev pub raise : ℕ → Fault → Fault
-raise a Fine = Fine
-raise a (Gap o) = Gap (a + o)
-raise a (Stray o) = Stray (a + o)
+-- a part whose numbers are counted from a on
+module _ {part whole : ℕ → ℕ} {a m : ℕ} (same : (d : ℕ) → d < m → part d ≡ whole (a + d)) where
+  raised : {e : ℕ} → e ≤ m → Throughout part 0 0 e → Throughout whole 0 a (a + e)
+  raised h t =
+      record {
+        is = λ j l u. let g : a + (j - a) ≡ j = omega arith in
+            ap whole (sym g) ∙ sym (same (j - a) (omega arith)) ∙ t .is (j - a) (omega arith) (omega arith);
+      }
 
--- the search in a part, whose bytes are those of the whole
-pub fault-part : (must some : ℕ → Bool) (byte part : ℕ → ℕ) (a n o : ℕ)
-    → ((k : ℕ) → o ≤ k → k < o + n → some k ≡ must (a + k)) → ((k : ℕ) → o ≤ k → k < o + n → part k ≡ byte (a + k))
-    → raise a (firstFault some part n o) ≡ firstFault must byte n (a + o)
-unfolding firstFault faultAt
-fault-part must some byte part a zero o f g = refl
-fault-part must some byte part a (suc n) o f g =
-    let e : a + o + 1 ≡ a + (o + 1) = omega arith in
-    rw (
-      f o (omega arith) (omega arith),
-      g o (omega arith) (omega arith),
-      e,
-      ← fault-part must some byte part a n (o + 1) (λ k l h. f k (omega arith) (omega arith)) (λ k l h. g k (omega arith) (omega arith)),
-    )
-    (both (must (a + o)) (eqb (byte (a + o)) 0) (firstFault some part n (o + 1)))
-  where
-    both : (m z : Bool) (r : Fault)
-        → raise a (orElse (if m then (if z then Gap o else Fine) else (if z then Fine else Stray o)) r)
-        ≡ orElse (if m then (if z then Gap (a + o) else Fine) else (if z then Fine else Stray (a + o))) (raise a r)
-    both true true r = refl
-    both true false r = refl
-    both false true r = refl
-    both false false r = refl
+  pub raise-fine : Throughout part 0 0 m → Throughout whole 0 a (a + m)
+  raise-fine = raised (omega arith)
+
+  pub raise-wrong : {n o : ℕ} → Wrong part 0 m n o → Wrong whole a (a + m) n (a + o)
+  raise-wrong w =
+      record {
+        low = omega arith;
+        high = omega (arith, w .high);
+        number = sym (same _ (w .high)) ∙ w .number;
+        before = raised (omega (arith, w .high)) (w .before);
+      }
+
+module _ (s : Sizes) (label : ℕ → Label) where
+  pub crossing-at : (p d : ℕ) → d < 7 → getD (crossingsAt s label p) d false ≡ crosses s label p d
+  unfolding crossingsAt
+  crossing-at p = by-direction (λ e. getD (crossingsAt s label p) e false ≡ crosses s label p e) refl refl refl refl refl refl refl
+
+  module _ (cuts : List ℕ) where
+    pub byte-fine : (o : ℕ) → crosses s label (o / 7) (o % 7) ≡ false → getD cuts o 0 ≡ 0 → cutFault s label cuts o ≡ 0
+    unfolding cutFault
+    byte-fine o m e = simp (m, eq-eqb _ 0 e)
+
+    -- the byte in direction d of the point p, as its test sees it in the part of the table that is lent
+    pub seven-is : {own p : ℕ} → own ≡ p → (d : ℕ) → d < 7
+        → sevenFault (crossingsAt s label own) (take (7 * p + 7 - 7 * p) (drop (7 * p) cuts)) d ≡ cutFault s label cuts (7 * p + d)
+    unfolding sevenFault numberAt cutFault
+    seven-is {own} {p} e d h =
+        let i : (7 * p + d) / 7 ≡ p = omega arith in
+        let j : (7 * p + d) % 7 ≡ d = omega arith in
+        let n : 7 * p + 7 - 7 * p ≡ 7 = omega arith in
+        rw (i, j, e, n, crossing-at p d h, getD-take 7 (drop (7 * p) cuts) d 0 h, getD-drop (7 * p) cuts d 0) refl
+
+    -- the answers, by what was passed and what was found
+    abbrev numberFrom : ℕ → ℕ
+    numberFrom o = if ltb o (7 * points s) then cutFault s label cuts o else 0
+
+    tested : {a e : ℕ} → Throughout (cutFault s label cuts) 0 a e → Throughout (λ o. not (eqb (cutFault s label cuts o) 0)) false a e
+    tested t = record { is = λ j l u. ap (λ (n : ℕ). not (eqb n 0)) (t .is j l u) }
+
+    pub answer-fine : {p : ℕ} → points s ≤ p → Throughout (cutFault s label cuts) 0 0 (7 * p) → CutAnswer s label cuts Fine
+    answer-fine h t =
+        let e : 7 * points s ≡ firstCut s label cuts = none-lowest (tested t) (omega arith) in
+        record { place = e; number = subst (λ (o : ℕ). 0 ≡ numberFrom o) e (simp (le-ltb (7 * points s) (7 * points s) (omega arith))) }
+
+    answer-wrong : {n o : ℕ} → not (eqb n 0) ≡ true → Wrong (cutFault s label cuts) 0 (7 * points s) n o
+        → (o ≡ firstCut s label cuts) × (n ≡ numberFrom (firstCut s label cuts))
+    answer-wrong {n} {o} t w = (e, subst (λ (k : ℕ). n ≡ numberFrom k) e (simp (lt-ltb o (7 * points s) (w .high)) (sym (w .number))))
+      where
+        e : o ≡ firstCut s label cuts
+        e =
+            first-lowest (none-yet (omega arith))
+            (here (w .low) (w .high) (ap (λ (k : ℕ). not (eqb k 0)) (w .number) ∙ t) (tested (w .before))) (w .high) (omega arith)
+
+    pub answer-gap : {o : ℕ} → Wrong (cutFault s label cuts) 0 (7 * points s) 6 o → CutAnswer s label cuts (Gap o)
+    answer-gap w = let a = answer-wrong refl w in record { place = a .0; number = a .1 }
+
+    pub answer-stray : {o : ℕ} → Wrong (cutFault s label cuts) 0 (7 * points s) 7 o → CutAnswer s label cuts (Stray o)
+    answer-stray w = let a = answer-wrong refl w in record { place = a .0; number = a .1 }

@@ -1,7 +1,6 @@
-pub mod Steps
+pub mod Search
+pub mod Walk
+pub mod Outer
 pub mod Faults
-pub mod Outside
-pub mod Table
-pub mod Still
-pub mod Answers
-pub mod Level
+pub mod Edges
+pub mod Glance

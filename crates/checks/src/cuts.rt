@@ -9,19 +9,17 @@ use lattice::Sizes;
 use lattice::counts;
 use lattice::numbers;
 ghost use mathlib.Core.Path.{_≡_};
-ghost use mathlib.Core.List.{[]};
-ghost use Prim.Native.Nat.{_≤_};
 ghost use lib.ListN.{length};
 ghost use Rattle.moving.specs.Block.{blockOf, Tabled};
-ghost use Rattle.checks.specs.inner.Faults.{Asked, CutAnswer, crossingsAt, offsetOf, sevenFault, lineFault};
+ghost use Rattle.moving.specs.Label.{labels};
 ghost use Rattle.ground.specs.inner.Lines.{Line};
+ghost use Rattle.checks.specs.inner.Faults.{Asked, Answered, LineAnswered, CutAnswer, crossingsAt, sevenFault};
 
 // The first byte at fault of a point's seven, which are lent to it. Most points need only a glance.
 fn site_fault(s: Sizes, samples: &[i16], bytes: &[u8], q: Site) -> Fault
     requires { ⌜ Asked s (now samples) q ⌝ }
     requires { ⌜ length (now bytes) ≡ 7 ⌝ }
-    ensures { λ r. ⌜ r ≡ sevenFault (crossingsAt (blockOf s (now (samples .entry)) []) (q .own)) (now (bytes .entry)) ⌝ }
-    ensures { λ r. ⌜ offsetOf r ≤ 6 ⌝ }
+    ensures { λ r. ⌜ Answered (sevenFault (crossingsAt s (labels (now (samples .entry))) (q .own)) (now (bytes .entry))) 0 7 r ⌝ }
 {
     if quiet::is_quiet(s, samples, bytes, q) {
         return Fault::Fine;
@@ -34,7 +32,7 @@ fn site_fault(s: Sizes, samples: &[i16], bytes: &[u8], q: Site) -> Fault
 fn line_search(s: Sizes, samples: &[i16], cuts: &[u8], q: Site) -> Fault
     requires { ⌜ Tabled (blockOf s (now samples) (now cuts)) ⌝ }
     requires { ⌜ Line s (q .own) q ⌝ }
-    ensures { λ r. ⌜ r ≡ lineFault (blockOf s (now (samples .entry)) (now (cuts .entry))) q ⌝ }
+    ensures { λ r. ⌜ LineAnswered s (labels (now (samples .entry))) (now (cuts .entry)) q r ⌝ }
 {
     let kind = q.kind;
     let own = q.own;
@@ -56,7 +54,7 @@ fn line_search(s: Sizes, samples: &[i16], cuts: &[u8], q: Site) -> Fault
 fn line_fault(s: Sizes, samples: &[i16], cuts: &[u8], q: Site) -> Fault
     requires { ⌜ Tabled (blockOf s (now samples) (now cuts)) ⌝ }
     requires { ⌜ Line s (q .own) q ⌝ }
-    ensures { λ r. ⌜ r ≡ lineFault (blockOf s (now (samples .entry)) (now (cuts .entry))) q ⌝ }
+    ensures { λ r. ⌜ LineAnswered s (labels (now (samples .entry))) (now (cuts .entry)) q r ⌝ }
 {
     if quiet::is_quiet_line(s, samples, cuts, q) {
         return Fault::Fine;
@@ -67,12 +65,11 @@ fn line_fault(s: Sizes, samples: &[i16], cuts: &[u8], q: Site) -> Fault
 // The lowest byte at fault.
 pub fn first_cut(s: Sizes, samples: &[i16], cuts: &[u8]) -> Fault
     requires { ⌜ Tabled (blockOf s (now samples) (now cuts)) ⌝ }
-    ensures { λ r. ⌜ CutAnswer (blockOf s (now (samples .entry)) (now (cuts .entry))) r ⌝ }
+    ensures { λ r. ⌜ CutAnswer s (labels (now (samples .entry))) (now (cuts .entry)) r ⌝ }
 {
     let n = counts::point_count(s);
     let mut q = numbers::locate(s, 0);
-    let mut p = 0;
-    while p < n {
+    loop {
         let found = line_fault(s, samples, cuts, q);
         match found {
             Fault::Fine => {}
@@ -80,10 +77,10 @@ pub fn first_cut(s: Sizes, samples: &[i16], cuts: &[u8]) -> Fault
             Fault::Stray(o) => return Fault::Stray(o),
         }
         let kind = q.kind;
-        p += walk::line_length(s, kind);
-        if p < n {
-            q = walk::next_line(s, q);
+        let end = q.own + walk::line_length(s, kind);
+        if n <= end {
+            return Fault::Fine;
         }
+        q = walk::next_line(s, q);
     }
-    Fault::Fine
 }

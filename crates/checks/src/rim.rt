@@ -10,17 +10,15 @@ use lattice::numbers;
 use lattice::rim;
 ghost use mathlib.Core.Path.{_≡_};
 ghost use mathlib.Core.Bool.{_||_};
-ghost use mathlib.Core.List.{List};
-ghost use Prim.Native.Nat.{ℕ, _-_, _≤_};
+ghost use Prim.Native.Nat.{ℕ, _+_, _≤_};
 ghost use lib.ListN.{length};
-ghost use Rattle.basics.specs.Lists.{firstFrom};
 ghost use Rattle.lattice.specs.Axis.{along-x, along-y, along-z};
 ghost use Rattle.lattice.specs.Counts.{Sized, grid, points};
 ghost use Rattle.lattice.specs.Rim.{outermost};
-ghost use Rattle.moving.specs.Block.{blockOf};
-ghost use Rattle.filling.specs.Check.{firstRim};
-ghost use Rattle.ground.specs.inner.Lines.{Line};
-ghost use Rattle.checks.specs.inner.Outside.{plusAt, outside};
+ghost use Rattle.moving.specs.Label.{labels, isPlus};
+ghost use Rattle.filling.specs.Check.{rimFault, firstRim};
+ghost use Rattle.ground.specs.inner.Lines.{Line, tableMost};
+ghost use Rattle.checks.specs.inner.Search.{FirstIn};
 
 // All points of a line are on the rim.
 fn is_outer(s: Sizes, q: Site) -> bool
@@ -38,8 +36,8 @@ fn is_outer(s: Sizes, q: Site) -> bool
 
 // The first point above zero from one point on and before another.
 fn first_plus(samples: &[i16], from: usize, to: usize) -> usize
-    requires { ⌜ (from ≤ to) × (to ≤ length (now samples)) × (length (now samples) ≤ 1000000) ⌝ }
-    ensures { λ r. ⌜ r ≡ firstFrom (plusAt (now (samples .entry))) (to - from) from ⌝ }
+    requires { ⌜ (from ≤ to) × (to ≤ length (now samples)) × (length (now samples) ≤ tableMost) ⌝ }
+    ensures { λ r. ⌜ FirstIn (λ (p : ℕ). isPlus (labels (now (samples .entry)) p)) from to r ⌝ }
 {
     for p in from..to {
         if signs::is_plus(samples[p]) {
@@ -54,7 +52,7 @@ fn line_rim(s: Sizes, samples: &[i16], q: Site) -> usize
     requires { ⌜ Sized s ⌝ }
     requires { ⌜ length (now samples) ≡ points s ⌝ }
     requires { ⌜ Line s (q .own) q ⌝ }
-    ensures { λ r. ⌜ r ≡ firstFrom (outside s (now (samples .entry))) (grid s (q .kind) along-x) (q .own) ⌝ }
+    ensures { λ r. ⌜ FirstIn (rimFault s (labels (now (samples .entry)))) (q .own) (q .own + grid s (q .kind) along-x) r ⌝ }
 {
     let kind = q.kind;
     let own = q.own;
@@ -76,21 +74,20 @@ fn line_rim(s: Sizes, samples: &[i16], q: Site) -> usize
 pub fn first_rim(s: Sizes, samples: &[i16]) -> usize
     requires { ⌜ Sized s ⌝ }
     requires { ⌜ length (now samples) ≡ points s ⌝ }
-    ensures { λ r. ⌜ ((cuts : List ℕ) → r ≡ firstRim (blockOf s (now (samples .entry)) cuts)) ⌝ }
+    ensures { λ r. ⌜ r ≡ firstRim s (labels (now (samples .entry))) ⌝ }
 {
     let n = counts::point_count(s);
     let mut q = numbers::locate(s, 0);
-    let mut p = 0;
-    while p < n {
-        let found = line_rim(s, samples, q);
+    loop {
         let kind = q.kind;
-        p += walk::line_length(s, kind);
-        if found < p {
+        let end = q.own + walk::line_length(s, kind);
+        let found = line_rim(s, samples, q);
+        if found < end {
             return found;
         }
-        if p < n {
-            q = walk::next_line(s, q);
+        if n <= end {
+            return n;
         }
+        q = walk::next_line(s, q);
     }
-    n
 }

@@ -1,37 +1,64 @@
 -- What the checks of rim and cut bytes say of a block. Assumes nothing.
 use Prim.Native.Nat.{ℕ, suc, _*_, _≤_, _<_}
 use native.Mathlib.Omega.{arith}
-use mathlib.Core.Path.{_≡_, refl, sym, ap, subst, _∙_}
+use mathlib.Core.Path.{_≡_, refl, sym, ap, _∙_}
 use mathlib.Core.Bool.{Bool, true, false, not}
+use mathlib.Core.List.{List}
+use lib.ListN.{length}
 use lib.Dec.{eqb, ltb}
 use borrow.Author.Tests.{ltb-true, eqb-true, not-false}
 use Rattle.basics.specs.Choice.{if_then_else_}
 use Rattle.basics.proofs.Search.{lowest-none}
 use Rattle.lattice.specs.Counts.{points}
+use Rattle.lattice.proofs.Sized.{sized-fits}
 use Rattle.moving.specs.Block.{Block, Tabled}
-use Rattle.filling.specs.Check.{rimFault, cutFault, firstRim, firstCut}
-use Rattle.filling.proofs.Accepted.{Accepted}
+use Rattle.filling.specs.declared.Filled.{Filled}
+use Rattle.filling.specs.Check.{rimFault, Accepted}
+use Rattle.filling.specs.Fill.{refused}
+use Rattle.filling.proofs.Accepted.{labelIn, faultIn, rimOf, cutOf}
 use Rattle.checks.specs.declared.Fault.{Fault}
+use Rattle.checks.specs.declared.Fault.the-variants.{Fine}
 use Rattle.checks.specs.inner.Faults.{numberOf, placeOf, CutAnswer}
+use Rattle.yakuemi.specs.inner.Fills.{Fills}
+use Rattle.yakuemi.proofs.Refusals.{refusal-by, by-rim, by-byte}
 
--- a fault of the cut table: its number and its place
-pub record Faulty (b : Block) (n o : ℕ) : Type 0 where
-  pub inside : firstCut b < 7 * points (b .sizes)
-  pub number : cutFault b (firstCut b) ≡ n
-  pub place : firstCut b ≡ o
+-- the answer of a refusal, as the code makes it
+abbrev pub said : ℕ → ℕ → Filled
+said n at = record { number = n; rows = 0; moved = 0; place = at }
 
-pub at-fault : (b : Block) (r : Fault) (k o : ℕ) → CutAnswer b r → numberOf r ≡ suc k → placeOf (7 * points (b .sizes)) r ≡ o → Faulty b (suc k) o
-at-fault b r k o a n p = go (ltb (firstCut b) (7 * points (b .sizes))) refl (sym n ∙ a .number)
-  where
-    go : (t : Bool) → ltb (firstCut b) (7 * points (b .sizes)) ≡ t → suc k ≡ (if t then cutFault b (firstCut b) else 0) → Faulty b (suc k) o
-    go true e f = record { inside = ltb-true _ _ e; number = sym f; place = sym (a .place) ∙ p }
-    go false e f = absurd (omega arith)
+module _ (b : Block) (state rows : List ℕ) (t : Tabled b) (long : length state ≡ points (b .sizes)) {r : Filled} where
+  -- a rim point at fault
+  pub rim-refused : {first n : ℕ} → first ≡ rimOf b → n ≡ points (b .sizes) → first < n → r ≡ said 5 first
+      → Fills b state rows r state rows
+  rim-refused e f h i =
+      refusal-by b state rows r 5 (rimOf b) (i ∙ ap (said 5) e)
+      (by-rim b state rows (sized-fits (b .sizes) (t .sized)) (t .samples-long) (t .cuts-long) long (omega arith))
+
+  -- a byte at fault: one of the two answers that are not fine
+  pub cut-refused : {first n : ℕ} → first ≡ rimOf b → n ≡ points (b .sizes) → n ≤ first
+      → (f : Fault) (k o : ℕ) → CutAnswer (b .sizes) (labelIn b) (b .cuts) f → numberOf f ≡ suc k
+      → placeOf (7 * points (b .sizes)) f ≡ o → r ≡ said (suc k) o → Fills b state rows r state rows
+  cut-refused e g h f k o a n p i = go (ltb (cutOf b) (7 * points (b .sizes))) refl (sym n ∙ a .number)
+    where
+      place : o ≡ cutOf b
+      place = sym p ∙ a .place
+
+      go : (z : Bool) → ltb (cutOf b) (7 * points (b .sizes)) ≡ z → suc k ≡ (if z then faultIn b (cutOf b) else 0)
+          → Fills b state rows r state rows
+      go false z w = absurd (omega arith)
+      go true z w =
+          refusal-by b state rows r (suc k) (cutOf b) (i ∙ ap (said (suc k)) place)
+          (by-byte b state rows (sized-fits (b .sizes) (t .sized)) (t .samples-long) (t .cuts-long) long (omega arith) (ltb-true _ _ z)
+          ∙ ap (λ (m : ℕ). refused b state rows m (cutOf b)) (sym w))
 
 -- no fault on the rim and none in the cut table: the block is accepted
-pub accept : (b : Block) → Tabled b → points (b .sizes) ≤ firstRim b → 7 * points (b .sizes) ≤ firstCut b → Accepted b
-accept b t r c =
+pub accept : (b : Block) {first n : ℕ} {f : Fault} → Tabled b → first ≡ rimOf b → n ≡ points (b .sizes) → n ≤ first
+    → CutAnswer (b .sizes) (labelIn b) (b .cuts) f → f ≡ Fine → Accepted b
+accept b t e g h a z =
+    let none = sym (ap (placeOf (7 * points (b .sizes))) z) ∙ a .place in
+    let clear = lowest-none (λ o. not (eqb (faultIn b o) 0)) (7 * points (b .sizes)) (omega arith) in
     record {
       tabled = t;
-      rim-fine = lowest-none (rimFault b) (points (b .sizes)) r;
-      cuts-fine = λ o h. eqb-true _ _ (not-false _ (lowest-none (λ o. not (eqb (cutFault b o) 0)) (7 * points (b .sizes)) c o h));
+      rim-fine = lowest-none (rimFault (b .sizes) (labelIn b)) (points (b .sizes)) (omega arith);
+      cuts-fine = λ o u. eqb-true _ _ (not-false _ (clear o u));
     }

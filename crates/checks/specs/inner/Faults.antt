@@ -1,5 +1,12 @@
 -- Document 01, "Calls and refusals": refusals 6 and 7, and what the search for them answers.
-use Prim.Native.Nat.{ℕ, zero, suc, _+_, _*_, _/_, _%_, _<_}
+--     numberOf, placeOf      the number and the place of an answer
+--     CutAnswer              the answer for a whole cut table
+--     Wrong, Answered        the answer for a part of it
+--     LineFine, LineAnswered the same for the bytes of a line of points
+--     numberAt, sevenFault   a byte's fault, and that of one of a point's seven bytes
+--     crossingsAt            which of the seven edges from a point cross the skin
+--     Asked                  a decoded point of a block whose samples are all there
+use Prim.Native.Nat.{ℕ, _+_, _*_, _≤_, _<_}
 use mathlib.Core.Path.{_≡_}
 use mathlib.Core.Bool.{Bool, false}
 use mathlib.Core.List.{List, [], _∷_}
@@ -11,11 +18,12 @@ use Rattle.lattice.specs.declared.Sizes.{Sizes}
 use Rattle.lattice.specs.declared.Site.{Site}
 use Rattle.lattice.specs.Axis.{along-x}
 use Rattle.lattice.specs.Counts.{Sized, grid, points}
-use Rattle.lattice.specs.inner.Site.{siteOf}
-use Rattle.moving.specs.Block.{Block, cutByte}
+use Rattle.lattice.specs.inner.Site.{Sited}
+use Rattle.moving.specs.declared.Label.{Label}
 use Rattle.filling.specs.Check.{crosses, cutFault, firstCut}
 use Rattle.checks.specs.declared.Fault.{Fault}
 use Rattle.checks.specs.declared.Fault.the-variants.{Fine, Gap, Stray}
+use Rattle.checks.specs.inner.Search.{Throughout}
 
 -- document 01's number of each answer: "6 gap", "7 stray", and 0 where nothing is wrong
 abbrev pub numberOf : Fault → ℕ
@@ -29,53 +37,53 @@ placeOf none Fine = none
 placeOf none (Gap o) = o
 placeOf none (Stray o) = o
 
-abbrev pub offsetOf : Fault → ℕ
-offsetOf = placeOf 0
-
 -- the answer for a whole cut table: the lowest byte at fault with its number, or 7N with 0
-pub record CutAnswer (b : Block) (r : Fault) : Type 0 where
-  pub place : placeOf (7 * points (b .sizes)) r ≡ firstCut b
-  pub number : numberOf r ≡ (if ltb (firstCut b) (7 * points (b .sizes)) then cutFault b (firstCut b) else 0)
+pub record CutAnswer (s : Sizes) (label : ℕ → Label) (cuts : List ℕ) (r : Fault) : Type 0 where
+  pub place : placeOf (7 * points s) r ≡ firstCut s label cuts
+  pub number : numberOf r
+      ≡ (if ltb (firstCut s label cuts) (7 * points s) then cutFault s label cuts (firstCut s label cuts) else 0)
 
--- the byte at an offset, where there must be a cut or must be none
-unfoldable pub faultAt : ℕ → Bool → ℕ → Fault
-faultAt o must byte = if must then (if eqb byte 0 then Gap o else Fine) else (if eqb byte 0 then Fine else Stray o)
+-- o is the first offset from a on and before e that is at fault, and its number is n
+pub record Wrong (fault : ℕ → ℕ) (a e n o : ℕ) : Type 0 where
+  pub low : a ≤ o
+  pub high : o < e
+  pub number : fault o ≡ n
+  pub before : Throughout fault 0 a o
 
--- the first of two faults
-abbrev pub orElse : Fault → Fault → Fault
-orElse Fine f = f
-orElse (Gap o) f = Gap o
-orElse (Stray o) f = Stray o
+-- the answer for the offsets from a on and before e
+pub data Answered (fault : ℕ → ℕ) (a e : ℕ) : Fault → Type 0 where
+  fine : Throughout fault 0 a e → Answered fault a e Fine
+  gap : {o : ℕ} → Wrong fault a e 6 o → Answered fault a e (Gap o)
+  stray : {o : ℕ} → Wrong fault a e 7 o → Answered fault a e (Stray o)
 
--- the first fault of n bytes from an offset on
-module _ (must : ℕ → Bool) (byte : ℕ → ℕ) where
-  unfoldable pub firstFault : ℕ → ℕ → Fault
-  firstFault zero o = Fine
-  firstFault (suc n) o = orElse (faultAt o (must o) (byte o)) (firstFault n (o + 1))
+module _ (s : Sizes) (label : ℕ → Label) (cuts : List ℕ) (q : Site) where
+  abbrev pub LineFine : Type 0
+  LineFine = Throughout (cutFault s label cuts) 0 (7 * q .own) (7 * (q .own + grid s (q .kind) along-x))
 
--- the same of a block's cut table: the bytes of edges that cross the skin must be non-zero
-abbrev pub mustAt : Block → ℕ → Bool
-mustAt b o = crosses b (o / 7) (o % 7)
+  abbrev pub LineAnswered : Fault → Type 0
+  LineAnswered = Answered (cutFault s label cuts) (7 * q .own) (7 * (q .own + grid s (q .kind) along-x))
 
-abbrev pub tableFault : Block → ℕ → ℕ → Fault
-tableFault b = firstFault (mustAt b) (cutByte b)
+-- the number of a byte's fault, where there must be a cut or must be none
+unfoldable pub numberAt : Bool → ℕ → ℕ
+numberAt must byte = if must then (if eqb byte 0 then 6 else 0) else (if eqb byte 0 then 0 else 7)
 
--- the same of the line of points that starts at q
-abbrev pub lineFault : Block → Site → Fault
-lineFault b q = tableFault b (7 * grid (b .sizes) (q .kind) along-x) (7 * q .own)
+-- the same of the byte in direction d of one point
+unfoldable pub sevenFault : List Bool → List ℕ → ℕ → ℕ
+sevenFault must bytes d = numberAt (getD must d false) (getD bytes d 0)
 
--- the same of the seven bytes of one point
-abbrev pub sevenFault : List Bool → List ℕ → Fault
-sevenFault must bytes = firstFault (λ d. getD must d false) (λ d. getD bytes d 0) 7 0
+module _ (s : Sizes) (label : ℕ → Label) where
+  unfoldable pub crossingsAt : ℕ → List Bool
+  crossingsAt p =
+      crosses s label p 0
+      ∷ crosses s label p 1
+      ∷ crosses s label p 2
+      ∷ crosses s label p 3
+      ∷ crosses s label p 4
+      ∷ crosses s label p 5
+      ∷ crosses s label p 6
+      ∷ []
 
--- which of the seven edges from a point cross the skin
-unfoldable pub crossingsAt : Block → ℕ → List Bool
-crossingsAt b p =
-    crosses b p 0 ∷ crosses b p 1 ∷ crosses b p 2 ∷ crosses b p 3 ∷ crosses b p 4 ∷ crosses b p 5 ∷ crosses b p 6 ∷ []
-
--- a decoded point of a block whose samples are all there
 pub record Asked (s : Sizes) (samples : List ℤ) (q : Site) : Type 0 where
   pub sized : Sized s
   pub long : length samples ≡ points s
-  pub is : q ≡ siteOf s (q .own)
-  pub below : q .own < points s
+  pub sited : Sited s q

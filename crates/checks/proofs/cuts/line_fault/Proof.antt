@@ -1,5 +1,5 @@
 -- A glance, or the search. Assumes nothing.
-use mathlib.Core.Path.{sym}
+use Rattle.checks.specs.inner.Faults.{fine}
 use borrow.Author.Needs.{needs}
 use Rattle.checks.proofs.cuts.line_fault.Statement.{statement}
 use Rattle.checks.proofs.cuts.line_fault.Tie as tie
@@ -8,7 +8,7 @@ is-quiet-line-requires : tie.Need-is-quiet-line-requires
 is-quiet-line-requires c κs = search needs
 
 returns : tie.Need-returns
-returns c = sym (c .before .is-quiet-line .ensures (c .if1 .taken))
+returns c = fine (c .before .is-quiet-line .ensures (c .if1 .taken))
 
 line-search-requires : tie.Need-line-search-requires
 line-search-requires c κs = search needs

@@ -1,10 +1,8 @@
 -- A glance, or the whole test. Assumes nothing.
-use native.Mathlib.Omega.{arith}
-use Prim.Native.Nat.{ℕ}
-use mathlib.Core.Path.{sym, ap, _∙_}
+use mathlib.Core.Path.{subst}
 use mathlib.Core.Bool.{Bool}
 use mathlib.Core.List.{List}
-use Rattle.checks.specs.inner.Faults.{sevenFault}
+use Rattle.checks.specs.inner.Faults.{Answered, fine, sevenFault}
 use borrow.Author.Needs.{needs}
 use Rattle.checks.proofs.cuts.site_fault.Statement.{statement}
 use Rattle.checks.proofs.cuts.site_fault.Tie as tie
@@ -13,7 +11,7 @@ is-quiet-requires : tie.Need-is-quiet-requires
 is-quiet-requires c κs = search needs
 
 returns : tie.Need-returns
-returns c = (sym (c .before .is-quiet .ensures (c .if1 .taken)), omega arith)
+returns c = fine (c .before .is-quiet .ensures (c .if1 .taken))
 
 crossings-requires : tie.Need-crossings-requires
 crossings-requires c κs = search needs
@@ -23,8 +21,9 @@ point-fault-requires c κs = search needs
 
 returns-2 : tie.Need-returns-2
 returns-2 c =
-    let c5 = c .before .before .before .before .before in
-    (c .point-fault .ensures .0 ∙ ap (λ (m : List Bool). sevenFault m (c5 .args .bytes .now)) (c .before .crossings .ensures), c .point-fault .ensures .1)
+    let at-start = c .before .before .before .before .before in
+    subst (λ (must : List Bool). Answered (sevenFault must (at-start .args .bytes .now)) 0 7 (c .point-fault .result))
+    (c .before .crossings .ensures) (c .point-fault .ensures)
 
 pub site-fault-spec : {M : Type 1} → statement M
 site-fault-spec =

@@ -1,21 +1,18 @@
--- The loop's invariant: no far end before d is opposed. Assumes nothing.
+-- The loop's invariant: no point before d is opposed. Assumes nothing.
 use Prim.Native.Nat.{ℕ, _-_, _≤_, _<_}
 use native.Mathlib.Omega.{arith}
 use mathlib.Core.Path.{_≡_, sym, subst, _∙_}
 use mathlib.Core.Bool.{false}
 use lib.Dec.{T}
-use lib.IntN.{pos}
 use lib.ListN.{getD}
 use borrow.Author.Count.{below-more}
-use Rattle.moving.specs.Label.{labelOf, opposed}
-use Rattle.ground.proofs.Labels.{opposed-handed}
-use borrow.Author.Needs.{needs}
+use Rattle.moving.specs.Label.{labels, opposed}
 use Rattle.checks.proofs.quiet.is_calm.Statement.{statement}
 use Rattle.checks.proofs.quiet.is_calm.Tie as tie
 
 abbrev Inv-loop : tie.InvT-loop
 Inv-loop samples own ends d₀ d =
-    (d ≤ 7) × ((j : ℕ) → j < d → opposed (labelOf (getD samples own (pos 0))) (labelOf (getD samples (getD ends j 0) (pos 0))) ≡ false)
+    (d ≤ 7) × ((j : ℕ) → j < d → opposed (labels samples own) (labels samples (getD ends j 0)) ≡ false)
 
 abbrev μ-loop : tie.MeasureT-loop
 μ-loop samples own ends d₀ d = 7 - d
@@ -23,28 +20,14 @@ abbrev μ-loop : tie.MeasureT-loop
 loop-holds : tie.Need-loop-holds Inv-loop μ-loop
 loop-holds c = (omega arith, λ j l. absurd (omega arith))
 
-mul-far : tie.Need-mul-far Inv-loop μ-loop
-mul-far c = omega arith
+mul-is-opposed : tie.Need-mul-is-opposed Inv-loop μ-loop
+mul-is-opposed c = omega arith
 
-array-read-far : tie.Need-array-read-far Inv-loop μ-loop
-array-read-far c = omega arith
+array-read-is-opposed : tie.Need-array-read-is-opposed Inv-loop μ-loop
+array-read-is-opposed c = omega arith
 
-mul-opposite : tie.Need-mul-opposite Inv-loop μ-loop
-mul-opposite c = omega arith
-
-shared-slice-copy-out-opposite : tie.Need-shared-slice-copy-out-opposite Inv-loop μ-loop
-shared-slice-copy-out-opposite c = omega arith
-
-mul-opposite-2 : tie.Need-mul-opposite-2 Inv-loop μ-loop
-mul-opposite-2 c =
-    omega (arith, c .before .before .before .pre .1 (c .before .before .loop .d) (c .before .loop-test .taken))
-
-shared-slice-copy-out-opposite-2 : tie.Need-shared-slice-copy-out-opposite-2 Inv-loop μ-loop
-shared-slice-copy-out-opposite-2 c =
-    omega (arith, c .before .before .before .pre .1 (c .before .before .loop .d) (c .before .loop-test .taken))
-
-opposite-requires : tie.Need-opposite-requires Inv-loop μ-loop
-opposite-requires c κs = search needs
+is-opposed-requires : tie.Need-is-opposed-requires Inv-loop μ-loop
+is-opposed-requires c κs = c .before .before .pre
 
 returns : tie.Need-returns Inv-loop μ-loop
 returns c = λ t. absurd (subst T (sym t) tt)
@@ -57,11 +40,11 @@ loop-less c = omega arith
 
 loop-again : tie.Need-loop-again Inv-loop μ-loop
 loop-again c =
-    let c5 = c .before .before .before .before .before in
-    (omega arith, below-more _ _ (c5 .loop .inv .1) (sym (opposed-handed _ _ (c .before .before .before .opposite-arg .given) (c .before .before .opposite-arg2 .given)) ∙ sym (c .before .opposite .ensures) ∙ c .if1 .left))
+    let at-loop = c .before .before .before in
+    (omega arith, below-more _ _ (at-loop .loop .inv .1) (sym (c .before .is-opposed .ensures) ∙ c .if1 .left))
 
 returns-2 : tie.Need-returns-2 Inv-loop μ-loop
-returns-2 c = λ t j l. c .before .loop .inv .1 j (omega arith)
+returns-2 c = λ t. record { none = λ d l. c .before .loop .inv .1 d (omega arith) }
 
 pub is-calm-spec : {M : Type 1} → statement M
 is-calm-spec =
@@ -70,13 +53,9 @@ is-calm-spec =
     Inv-loop
     μ-loop
     loop-holds
-    mul-far
-    array-read-far
-    mul-opposite
-    shared-slice-copy-out-opposite
-    mul-opposite-2
-    shared-slice-copy-out-opposite-2
-    opposite-requires
+    mul-is-opposed
+    array-read-is-opposed
+    is-opposed-requires
     returns
     add-d
     loop-less

@@ -5,7 +5,7 @@ use lib.Dec.{T}
 use Rattle.lattice.proofs.Bounds.{points-small}
 use Rattle.ground.proofs.Points.{sited}
 use Rattle.ground.proofs.Lines.{line-stands}
-use Rattle.checks.proofs.Level.{ranges-small, level-fine}
+use Rattle.checks.proofs.Glance.{level-fine}
 use borrow.Author.Needs.{needs}
 use Rattle.checks.proofs.quiet.is_quiet_line.Statement.{statement}
 use Rattle.checks.proofs.quiet.is_quiet_line.Tie as tie
@@ -15,70 +15,63 @@ line-length-requires c κs = c .before .pre .0 .sized
 
 mul-is-blank : tie.Need-mul-is-blank
 mul-is-blank c =
-    let a = c .before .before in
-    omega (arith, a .pre .1 .below, points-small (a .args .s) (a .pre .0 .sized))
+    let at-start = c .before .before in
+    omega (arith, at-start .pre .1 .below, points-small (at-start .args .s) (at-start .pre .0 .sized))
 
 add-is-blank : tie.Need-add-is-blank
 add-is-blank c =
-    let a = c .before .before in
-    omega (arith, a .pre .1 .below, points-small (a .args .s) (a .pre .0 .sized), c .line-length .ensures .1)
+    let at-start = c .before .before in
+    omega (arith, at-start .pre .1 .below, points-small (at-start .args .s) (at-start .pre .0 .sized), c .line-length .ensures .1)
 
 mul-is-blank-2 : tie.Need-mul-is-blank-2
 mul-is-blank-2 c =
-    let a = c .before .before in
-    omega (arith, a .pre .1 .below, points-small (a .args .s) (a .pre .0 .sized), c .line-length .ensures .1)
+    let at-start = c .before .before in
+    omega (arith, at-start .pre .1 .below, points-small (at-start .args .s) (at-start .pre .0 .sized), c .line-length .ensures .1)
 
 is-blank-requires : tie.Need-is-blank-requires
 is-blank-requires c κs = search needs
 
-ends-requires : tie.Need-ends-requires
-ends-requires c κs = let a = c .before .before .before .before in (a .pre .0 .sized, sited (line-stands (a .pre .1)))
-
-array-read-t17 : tie.Need-array-read-t17
-array-read-t17 c = search needs
-
-array-read-t20 : tie.Need-array-read-t20
-array-read-t20 c = search needs
-
-array-read-t23 : tie.Need-array-read-t23
-array-read-t23 c = search needs
-
-array-read-t26 : tie.Need-array-read-t26
-array-read-t26 c = search needs
+range-starts-requires : tie.Need-range-starts-requires
+range-starts-requires c κs =
+    let at-start = c .before .before .before .before in
+    (at-start .pre .0 .sized, sited (line-stands (at-start .pre .1)))
 
 is-level-requires : tie.Need-is-level-requires
 is-level-requires c κs =
-    let a = c .before .before .before .before .before in
-    let h = a .pre .0 .sized in (
-      (omega (arith, a .pre .0 .samples-long, points-small (a .args .s) h), c .before .before .before .line-length .ensures .1 .1),
-      ranges-small (a .args .s) (a .args .q) h (sited (line-stands (a .pre .1))) _ (c .ends .ensures),
+    let at-length = c .before .before .before in
+    let at-start = at-length .before .before in
+    let t = at-start .pre .0 in (
+      (omega (arith, t .samples-long, points-small (at-start .args .s) (t .sized)), at-length .line-length .ensures .1 .1),
+      c .range-starts .ensures .small,
     )
 
 returns : tie.Need-returns
 returns c =
-    let l = c .before .before .before .before .before in
-    let a = l .before .before in
-    λ t. level-fine (a .args .s) _ (a .args .q) (a .pre .1) (a .pre .0 .sized) (a .pre .0 .samples-long) _ _ _ _ (l .line-length .ensures .0)
-    (c .before .before .ends .ensures) (c .before .before .before .before .is-blank .ensures (c .before .before .before .if1 .taken))
-    (c .before .is-level .ensures (c .if2 .taken))
+    let at-ranges = c .before .before in
+    let at-blank = at-ranges .before .before in
+    let at-length = at-blank .before in
+    let at-start = at-length .before .before in
+    λ t. level-fine (at-start .pre .0 .sized) (at-start .pre .1) (at-ranges .range-starts .ensures) (at-length .line-length .ensures .0)
+    (c .before .is-level .ensures (c .if2 .taken)) _ (at-blank .is-blank .ensures (at-ranges .before .if1 .taken))
 
 is-level-requires-2 : tie.Need-is-level-requires-2
 is-level-requires-2 c κs =
-    let l = c .before .before .before .before .before in
-    let a = l .before .before in
-    let h = a .pre .0 .sized in (
-      (omega (arith, a .pre .0 .samples-long, points-small (a .args .s) h), l .line-length .ensures .1 .1),
-      ranges-small (a .args .s) (a .args .q) h (sited (line-stands (a .pre .1))) _ (c .before .before .ends .ensures),
+    let at-ranges = c .before .before in
+    let at-length = at-ranges .before .before .before in
+    let at-start = at-length .before .before in
+    let t = at-start .pre .0 in (
+      (omega (arith, t .samples-long, points-small (at-start .args .s) (t .sized)), at-length .line-length .ensures .1 .1),
+      at-ranges .range-starts .ensures .small,
     )
 
 returns-2 : tie.Need-returns-2
 returns-2 c =
-    let l = c .before .before .before .before .before .before in
-    let a = l .before .before in
-    λ t. level-fine (a .args .s) _ (a .args .q) (a .pre .1) (a .pre .0 .sized) (a .pre .0 .samples-long) _ _ _ _ (l .line-length .ensures .0)
-    (c .before .before .before .ends .ensures)
-    (c .before .before .before .before .before .is-blank .ensures (c .before .before .before .before .if1 .taken))
-    (c .is-level2 .ensures t)
+    let at-ranges = c .before .before .before in
+    let at-blank = at-ranges .before .before in
+    let at-length = at-blank .before in
+    let at-start = at-length .before .before in
+    λ t. level-fine (at-start .pre .0 .sized) (at-start .pre .1) (at-ranges .range-starts .ensures) (at-length .line-length .ensures .0)
+    (c .is-level2 .ensures t) _ (at-blank .is-blank .ensures (at-ranges .before .if1 .taken))
 
 returns-3 : tie.Need-returns-3
 returns-3 c = λ t. absurd (subst T (sym t) tt)
@@ -92,11 +85,7 @@ is-quiet-line-spec =
     add-is-blank
     mul-is-blank-2
     is-blank-requires
-    ends-requires
-    array-read-t17
-    array-read-t20
-    array-read-t23
-    array-read-t26
+    range-starts-requires
     is-level-requires
     returns
     is-level-requires-2

@@ -1,24 +1,23 @@
--- The loop's invariant: the search from p on finds what the whole search finds. Assumes nothing.
-use Prim.Native.Nat.{_-_, _≤_}
+-- The loop's invariant: no point before p is above zero. Assumes nothing.
+use Prim.Native.Nat.{ℕ, _-_, _≤_}
 use native.Mathlib.Omega.{arith}
-use mathlib.Core.Path.{_≡_, refl, sym, _∙_}
-use Rattle.basics.specs.Lists.{firstFrom}
-use Rattle.checks.specs.inner.Outside.{plusAt}
-use Rattle.ground.proofs.Labels.{plus-handed}
-use Rattle.checks.proofs.Steps.{search-hit, search-miss, search-end}
+use mathlib.Core.Bool.{false}
+use Rattle.moving.specs.Label.{labels, isPlus}
+use Rattle.checks.specs.inner.Search.{Throughout}
+use Rattle.checks.proofs.Search.{none-yet, one-more, here, nowhere, upto}
+use Rattle.checks.proofs.Outer.{plus-read}
 use borrow.Author.Needs.{needs}
 use Rattle.checks.proofs.rim.first_plus.Statement.{statement}
 use Rattle.checks.proofs.rim.first_plus.Tie as tie
 
 abbrev Inv-loop : tie.InvT-loop
-Inv-loop samples from to p₀ p =
-    (from ≤ p) × (p ≤ to) × (firstFrom (plusAt samples) (to - p) p ≡ firstFrom (plusAt samples) (to - from) from)
+Inv-loop samples from to p₀ p = (from ≤ p) × (p ≤ to) × Throughout (λ (j : ℕ). isPlus (labels samples j)) false from p
 
 abbrev μ-loop : tie.MeasureT-loop
 μ-loop samples from to p₀ p = to - p
 
 loop-holds : tie.Need-loop-holds Inv-loop μ-loop
-loop-holds c = (omega arith, omega arith, refl)
+loop-holds c = (omega arith, omega arith, none-yet (omega arith))
 
 mul-is-plus : tie.Need-mul-is-plus Inv-loop μ-loop
 mul-is-plus c = omega arith
@@ -30,10 +29,12 @@ is-plus-requires : tie.Need-is-plus-requires Inv-loop μ-loop
 is-plus-requires c κs = search needs
 
 returns : tie.Need-returns Inv-loop μ-loop
-unfolding plusAt
+unfolding labels
 returns c =
-    let c4 = c .before .before .before .before in
-    sym (search-hit _ _ _ (c .before .before .before .loop-test .taken) (sym (plus-handed _ (c .before .before .is-plus-arg .given)) ∙ sym (c .before .is-plus .ensures) ∙ c .if1 .taken)) ∙ c4 .loop .inv .2
+    let in-loop = c .before .before .before in
+    let i = in-loop .before .loop .inv in
+    here (i .0) (in-loop .loop-test .taken)
+    (plus-read _ (c .before .before .is-plus-arg .given) (c .before .is-plus .ensures) (c .if1 .taken)) (i .2)
 
 add-p : tie.Need-add-p Inv-loop μ-loop
 add-p c = omega arith
@@ -42,16 +43,14 @@ loop-less : tie.Need-loop-less Inv-loop μ-loop
 loop-less c = omega arith
 
 loop-again : tie.Need-loop-again Inv-loop μ-loop
-unfolding plusAt
+unfolding labels
 loop-again c =
-    let c4 = c .before .before .before .before in
-    (omega arith, omega arith, search-miss _ _ _ (c .before .before .before .loop-test .taken) (sym (plus-handed _ (c .before .before .is-plus-arg .given)) ∙ sym (c .before .is-plus .ensures) ∙ c .if1 .left) ∙ c4 .loop .inv .2)
+    let i = c .before .before .before .before .loop .inv in
+    let not-plus = plus-read _ (c .before .before .is-plus-arg .given) (c .before .is-plus .ensures) (c .if1 .left) in
+    (omega arith, omega arith, one-more (i .2) not-plus)
 
 returns-2 : tie.Need-returns-2 Inv-loop μ-loop
-returns-2 c =
-    let i = c .before .loop .inv in
-    let e : c .before .before .args .to ≡ c .before .loop .p = omega arith in
-    e ∙ sym (search-end _ _ _ (c .loop-test .left)) ∙ i .2
+returns-2 c = let i = c .before .loop .inv in nowhere (omega arith) (upto (c .loop-test .left) (i .2))
 
 pub first-plus-spec : {M : Type 1} → statement M
 first-plus-spec =

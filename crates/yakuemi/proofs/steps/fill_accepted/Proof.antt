@@ -10,8 +10,8 @@ use Rattle.emit.specs.inner.Mesh.{rowTotal, signedTable}
 use Rattle.emit.proofs.Oriented.{rows-length, rows-are}
 use Rattle.yakuemi.proofs.Written.{too-short, long-enough}
 use borrow.Author.Needs.{needs}
-use Rattle.yakuemi.proofs.fill.fill_accepted.Statement.{statement}
-use Rattle.yakuemi.proofs.fill.fill_accepted.Tie as tie
+use Rattle.yakuemi.proofs.steps.fill_accepted.Statement.{statement}
+use Rattle.yakuemi.proofs.steps.fill_accepted.Tie as tie
 
 warp-requires : tie.Need-warp-requires
 warp-requires c κs = search needs

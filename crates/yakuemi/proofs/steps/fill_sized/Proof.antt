@@ -8,8 +8,8 @@ use Rattle.lattice.proofs.Bounds.{points-small}
 use Rattle.moving.specs.Block.{blockOf}
 use Rattle.yakuemi.proofs.Refusals.{refusal-by, by-size, by-samples, by-cuts, by-state}
 use borrow.Author.Needs.{needs}
-use Rattle.yakuemi.proofs.fill.fill_sized.Statement.{statement}
-use Rattle.yakuemi.proofs.fill.fill_sized.Tie as tie
+use Rattle.yakuemi.proofs.steps.fill_sized.Statement.{statement}
+use Rattle.yakuemi.proofs.steps.fill_sized.Tie as tie
 
 sizes-fit-requires : tie.Need-sizes-fit-requires
 sizes-fit-requires c κs = search needs

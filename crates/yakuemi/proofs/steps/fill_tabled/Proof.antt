@@ -1,18 +1,13 @@
 -- Refusals 5 to 7, and acceptance where no check finds a fault. Assumes nothing.
-use native.Mathlib.Omega.{arith}
-use Prim.Native.Nat.{ℕ, _*_}
-use mathlib.Core.Path.{sym, ap, _∙_}
+use Prim.Native.Nat.{_*_}
+use mathlib.Core.Path.{ap}
 use Rattle.lattice.specs.Counts.{points}
 use Rattle.moving.specs.Block.{blockOf}
-use Rattle.filling.specs.Check.{firstRim, firstCut}
-use Rattle.filling.specs.Fill.{refused}
-use Rattle.lattice.proofs.Sized.{sized-fits}
 use Rattle.checks.specs.inner.Faults.{numberOf, placeOf}
-use Rattle.yakuemi.proofs.Refusals.{refusal-by, by-rim, by-byte}
-use Rattle.yakuemi.proofs.Checked.{at-fault, accept}
+use Rattle.yakuemi.proofs.Checked.{rim-refused, cut-refused, accept}
 use borrow.Author.Needs.{needs}
-use Rattle.yakuemi.proofs.fill.fill_tabled.Statement.{statement}
-use Rattle.yakuemi.proofs.fill.fill_tabled.Tie as tie
+use Rattle.yakuemi.proofs.steps.fill_tabled.Statement.{statement}
+use Rattle.yakuemi.proofs.steps.fill_tabled.Tie as tie
 
 point-count-requires : tie.Need-point-count-requires
 point-count-requires c κs = search needs
@@ -25,11 +20,13 @@ refused-requires c κs = search needs
 
 returns : tie.Need-returns
 returns c =
-    let a = c .before .before .before .before .before .before .before in
-    let b = blockOf (a .args .s) (a .args .samples .now) (a .args .cuts .now) in
-    let t = a .pre .0 in
-    refusal-by b (a .args .state .now) (a .args .rows .now) _ 5 (firstRim b) (c .refused .ensures ∙ ap (λ (o : ℕ). record { number = 5; rows = 0; moved = 0; place = o }) (c .before .before .first-rim .ensures (a .args .cuts .now)))
-    (by-rim b (a .args .state .now) (a .args .rows .now) (sized-fits _ (t .sized)) (t .samples-long) (t .cuts-long) (a .pre .1) (omega (arith, c .before .before .first-rim .ensures (a .args .cuts .now), c .before .before .before .point-count .ensures, c .before .if1 .taken)))
+    let at-rim = c .before .before in
+    let at-count = at-rim .before in
+    let at-start = at-count .before .before .before .before in
+    let a = at-start .args in
+    let b = blockOf (a .s) (a .samples .now) (a .cuts .now) in
+    rim-refused b (a .state .now) (a .rows .now) (at-start .pre .0) (at-start .pre .1) (at-rim .first-rim .ensures)
+    (at-count .point-count .ensures) (c .before .if1 .taken) (c .refused .ensures)
 
 first-cut-requires : tie.Need-first-cut-requires
 first-cut-requires c κs = search needs
@@ -51,28 +48,44 @@ enum-told c = search needs
 
 fill-accepted-requires : tie.Need-fill-accepted-requires
 fill-accepted-requires c κs =
-    let a = c .before .before .before .before .before .before .before .before .before .before .before in
-    let b = blockOf (a .args .s) (a .args .samples .now) (a .args .cuts .now) in
-    let t = a .pre .0 in
-    (accept b t (omega (arith, c .before .before .before .before .before .before .first-rim .ensures (a .args .cuts .now), c .before .before .before .before .before .before .before .point-count .ensures, c .before .before .before .before .before .if1 .left)) (omega (arith, sym (ap (placeOf (7 * points (a .args .s))) (c .before .before .enum-told .given .1)) ∙ c .before .before .before .before .first-cut .ensures .place)), a .pre .1)
+    let at-fault = c .before .before in
+    let at-cut = at-fault .before .before in
+    let at-rim = at-cut .before .before in
+    let at-count = at-rim .before in
+    let at-start = at-count .before .before .before .before in
+    let a = at-start .args in
+    let b = blockOf (a .s) (a .samples .now) (a .cuts .now) in
+    let accepted = accept b (at-start .pre .0) (at-rim .first-rim .ensures) (at-count .point-count .ensures)
+    (at-cut .before .if1 .left) (at-cut .first-cut .ensures) (at-fault .enum-told .given .1) in
+    (accepted, at-start .pre .1)
 
 returns-2 : tie.Need-returns-2
 returns-2 c =
-    let a = c .before .before .before .before .before .before .before .before .before .before .before in
-    let b = blockOf (a .args .s) (a .args .samples .now) (a .args .cuts .now) in
-    let t = a .pre .0 in
-    let f = at-fault b _ 5 _ (c .before .before .before .before .first-cut .ensures) (ap numberOf (c .before .before .fault .given .1)) (ap (placeOf (7 * points (a .args .s))) (c .before .before .fault .given .1)) in
-    refusal-by b (a .args .state .now) (a .args .rows .now) _ 6 (firstCut b) (c .refused2 .ensures ∙ ap (λ (o : ℕ). record { number = 6; rows = 0; moved = 0; place = o }) (sym (f .place)))
-    (by-byte b (a .args .state .now) (a .args .rows .now) (sized-fits _ (t .sized)) (t .samples-long) (t .cuts-long) (a .pre .1) (omega (arith, c .before .before .before .before .before .before .first-rim .ensures (a .args .cuts .now), c .before .before .before .before .before .before .before .point-count .ensures, c .before .before .before .before .before .if1 .left)) (f .inside) ∙ ap (λ (n : ℕ). refused b (a .args .state .now) (a .args .rows .now) n (firstCut b)) (f .number))
+    let at-fault = c .before .before in
+    let at-cut = at-fault .before .before in
+    let at-rim = at-cut .before .before in
+    let at-count = at-rim .before in
+    let at-start = at-count .before .before .before .before in
+    let a = at-start .args in
+    let b = blockOf (a .s) (a .samples .now) (a .cuts .now) in
+    let is = at-fault .fault .given .1 in
+    cut-refused b (a .state .now) (a .rows .now) (at-start .pre .0) (at-start .pre .1) (at-rim .first-rim .ensures)
+    (at-count .point-count .ensures) (at-cut .before .if1 .left) _ 5 _ (at-cut .first-cut .ensures) (ap numberOf is)
+    (ap (placeOf (7 * points (a .s))) is) (c .refused2 .ensures)
 
 returns-3 : tie.Need-returns-3
 returns-3 c =
-    let a = c .before .before .before .before .before .before .before .before .before .before .before in
-    let b = blockOf (a .args .s) (a .args .samples .now) (a .args .cuts .now) in
-    let t = a .pre .0 in
-    let f = at-fault b _ 6 _ (c .before .before .before .before .first-cut .ensures) (ap numberOf (c .before .before .fault2 .given .1)) (ap (placeOf (7 * points (a .args .s))) (c .before .before .fault2 .given .1)) in
-    refusal-by b (a .args .state .now) (a .args .rows .now) _ 7 (firstCut b) (c .refused3 .ensures ∙ ap (λ (o : ℕ). record { number = 7; rows = 0; moved = 0; place = o }) (sym (f .place)))
-    (by-byte b (a .args .state .now) (a .args .rows .now) (sized-fits _ (t .sized)) (t .samples-long) (t .cuts-long) (a .pre .1) (omega (arith, c .before .before .before .before .before .before .first-rim .ensures (a .args .cuts .now), c .before .before .before .before .before .before .before .point-count .ensures, c .before .before .before .before .before .if1 .left)) (f .inside) ∙ ap (λ (n : ℕ). refused b (a .args .state .now) (a .args .rows .now) n (firstCut b)) (f .number))
+    let at-fault = c .before .before in
+    let at-cut = at-fault .before .before in
+    let at-rim = at-cut .before .before in
+    let at-count = at-rim .before in
+    let at-start = at-count .before .before .before .before in
+    let a = at-start .args in
+    let b = blockOf (a .s) (a .samples .now) (a .cuts .now) in
+    let is = at-fault .fault2 .given .1 in
+    cut-refused b (a .state .now) (a .rows .now) (at-start .pre .0) (at-start .pre .1) (at-rim .first-rim .ensures)
+    (at-count .point-count .ensures) (at-cut .before .if1 .left) _ 6 _ (at-cut .first-cut .ensures) (ap numberOf is)
+    (ap (placeOf (7 * points (a .s))) is) (c .refused3 .ensures)
 
 same-length : tie.Need-same-length
 same-length c = search needs

@@ -1,0 +1,152 @@
+-- Points and lines with nothing to find. Assumes nothing.
+--     calm-none       no candidate is opposed: no edge crosses
+--     calm-fine       with bytes that are all zero a point's seven bytes are fine
+--     level-fine      the same for a line whose five ranges are level
+--     covers          the five ranges hold all candidates
+use Prim.Native.Nat.{ℕ, _+_, _*_, _-_, _/_, _%_, _≤_, _<_}
+use native.Mathlib.Omega.{arith}
+use mathlib.Core.Path.{_≡_, refl, sym, ap, subst, _∙_}
+use mathlib.Core.Bool.{Bool, false}
+use mathlib.Core.List.{List, [], _∷_}
+use lib.IntN.{ℤ, pos}
+use lib.ListN.{getD}
+use Rattle.lattice.specs.declared.Sizes.{Sizes}
+use Rattle.lattice.specs.declared.Kind.{Kind}
+use Rattle.lattice.specs.declared.Kind.the-variants.{Corner, Centre}
+use Rattle.lattice.specs.declared.Site.{Site}
+use Rattle.lattice.specs.Axis.{along-x}
+use Rattle.lattice.specs.Counts.{Sized, grid}
+use Rattle.lattice.specs.inner.Site.{Sited}
+use Rattle.lattice.proofs.Sites.{by-direction}
+use Rattle.moving.specs.declared.Label.{Label}
+use Rattle.moving.specs.Label.{labels}
+use Rattle.filling.specs.Check.{crosses, cutFault}
+use Rattle.ground.specs.inner.Lines.{Line, lineAt}
+use Rattle.ground.specs.inner.Signs.{hasSign}
+use Rattle.ground.specs.inner.Strides.{endsOf, endsAt}
+use Rattle.ground.proofs.Labels.{same-sign}
+use Rattle.ground.proofs.Points.{sited}
+use Rattle.ground.proofs.Lines.{line-stands, line-at}
+use Rattle.ground.proofs.FarEnds.{line-fits-across, site-numbers}
+use Rattle.checks.specs.inner.Search.{Throughout}
+use Rattle.checks.specs.inner.Faults.{LineFine, sevenFault, crossingsAt}
+use Rattle.checks.specs.inner.Glance.{Calm, Level, Held, Covers}
+use Rattle.checks.proofs.Faults.{none-at, byte-fine, crossing-at}
+use Rattle.checks.proofs.Edges.{calm-crosses}
+
+module _ {s : Sizes} {label : ℕ → Label} {q : Site} (h : Sized s) (g : Sited s q) where
+  pub calm-none : Calm label (q .own) (endsAt s q) → (d : ℕ) → d < 7 → crosses s label (q .own) d ≡ false
+  calm-none w d i = calm-crosses s label q h g d i refl (w .none d i)
+
+  pub calm-fine : {ends : List ℕ} → ends ≡ endsAt s q → Calm label (q .own) ends
+      → (bytes : List ℕ) → ((d : ℕ) → 0 ≤ d → d < 7 → getD bytes d 0 ≡ 0)
+      → Throughout (sevenFault (crossingsAt s label (q .own)) bytes) 0 0 7
+  calm-fine e w bytes z =
+      record {
+        is = λ d l u.
+            none-at (crossingsAt s label (q .own)) bytes d (crossing-at s label (q .own) d u ∙ calm-none (rw e at w) d u) (z d l u);
+      }
+
+-- x numbers along a line all candidates are x numbers further
+ends-on : (s : Sizes) (q : Site) → Sited s q → (x d : ℕ) → d < 7 → getD (endsAt s (lineAt q x)) d 0 ≡ getD (endsAt s q) d 0 + x
+unfolding endsAt
+ends-on s q g x d i = go (q .kind) refl
+  where
+    go : (k : Kind) → q .kind ≡ k → getD (endsOf k s (lineAt q x)) d 0 ≡ getD (endsOf k s q) d 0 + x
+    go Corner k =
+        let o = line-fits-across s q g k in
+        by-direction (λ d. getD (endsOf Corner s (lineAt q x)) d 0 ≡ getD (endsOf Corner s q) d 0 + x)
+        (omega arith) (omega arith) (omega arith) (omega arith) (omega arith) (omega arith) (omega arith) d i
+    go Centre k =
+        by-direction (λ d. getD (endsOf Centre s (lineAt q x)) d 0 ≡ getD (endsOf Centre s q) d 0 + x)
+        (omega arith) (omega arith) (omega arith) (omega arith) (omega arith) (omega arith) (omega arith) d i
+
+-- the point of index x in a line whose five ranges lack the sign, and whose bytes are all zero
+module _ {s : Sizes} {samples : List ℤ} {q : Site} (h : Sized s) (l : Line s (q .own) q) {plus : Bool} {starts : List ℕ} {m : ℕ}
+    (v : Covers (q .own) (endsAt s q) starts) (e : m ≡ grid s (q .kind) along-x) (w : Level plus samples starts m) where
+  abbrev Unsigned : ℕ → Type 0
+  Unsigned p = hasSign plus (getD samples p (pos 0)) ≡ false
+
+  module _ (x : ℕ) (i : x < m) where
+    self-unsigned : Unsigned (q .own + x)
+    self-unsigned =
+        ap (λ (p : ℕ). hasSign plus (getD samples (p + x) (pos 0))) (sym (v .self)) ∙ w .none 0 (omega arith) x (omega arith)
+
+    end-unsigned : (d : ℕ) → d < 7 → Unsigned (getD (endsAt s (lineAt q x)) d 0)
+    end-unsigned d j =
+        let r = v .each d j in
+        let y = getD (endsAt s q) d 0 - getD starts (r .range) 0 + x in
+        let f : getD (endsAt s (lineAt q x)) d 0 ≡ getD starts (r .range) 0 + y
+            = omega (arith, ends-on s q (sited (line-stands l)) x d j, r .from) in
+        ap (λ (p : ℕ). hasSign plus (getD samples p (pos 0))) f ∙ w .none (r .range) (r .is-range) y (omega (arith, r .to))
+
+    level-calm : Calm (labels samples) (q .own + x) (endsAt s (lineAt q x))
+    unfolding labels
+    level-calm = record { none = λ d j. same-sign plus _ _ self-unsigned (end-unsigned d j) }
+
+    level-none : (d : ℕ) → d < 7 → crosses s (labels samples) (q .own + x) d ≡ false
+    level-none = calm-none h (sited (line-at l x (omega arith))) level-calm
+
+  pub level-fine : (cuts : List ℕ) → ((o : ℕ) → 7 * q .own ≤ o → o < 7 * (q .own + m) → getD cuts o 0 ≡ 0)
+      → LineFine s (labels samples) cuts q
+  level-fine cuts z = record { is = at }
+    where
+      at : (o : ℕ) → 7 * q .own ≤ o → o < 7 * (q .own + grid s (q .kind) along-x) → cutFault s (labels samples) cuts o ≡ 0
+      at o a b =
+          let f : o / 7 ≡ q .own + (o / 7 - q .own) = omega arith in
+          let n = level-none (o / 7 - q .own) (omega arith) (o % 7) (omega arith) in
+          byte-fine s (labels samples) cuts o (ap (λ (p : ℕ). crosses s (labels samples) p (o % 7)) f ∙ n) (z o a (omega arith))
+
+-- where the five ranges start
+module _ (s : Sizes) (q : Site) where
+  -- candidates that stand side by side
+  pairs : (k : Kind)
+      → (getD (endsOf k s q) 0 0 ≡ q .own + 1)
+      × (getD (endsOf k s q) 4 0 ≤ getD (endsOf k s q) 3 0) × (getD (endsOf k s q) 3 0 ≤ getD (endsOf k s q) 4 0 + 1)
+      × (getD (endsOf k s q) 6 0 ≤ getD (endsOf k s q) 5 0) × (getD (endsOf k s q) 5 0 ≤ getD (endsOf k s q) 6 0 + 1)
+  pairs Corner = (refl, omega arith, omega arith, omega arith, omega arith)
+  pairs Centre = (refl, omega arith, omega arith, omega arith, omega arith)
+
+  module _ (h : Sized s) (g : Sited s q) where
+    end-small : (d : ℕ) → d < 7 → getD (endsAt s q) d 0 ≤ 1100000
+    unfolding endsAt
+    end-small = go (q .kind)
+      where
+        go : (k : Kind) (d : ℕ) → d < 7 → getD (endsOf k s q) d 0 ≤ 1100000
+        go Corner =
+            let n = site-numbers s q h g in
+            by-direction (λ d. getD (endsOf Corner s q) d 0 ≤ 1100000)
+            (omega arith) (omega arith) (omega arith) (omega arith) (omega arith) (omega arith) (omega arith)
+        go Centre =
+            let n = site-numbers s q h g in
+            by-direction (λ d. getD (endsOf Centre s q) d 0 ≤ 1100000)
+            (omega arith) (omega arith) (omega arith) (omega arith) (omega arith) (omega arith) (omega arith)
+
+    module _ {ends starts : List ℕ} (e : ends ≡ endsAt s q) (at-0 : getD starts 0 0 ≡ q .own) (at-1 : getD starts 1 0 ≡ getD ends 1 0)
+        (at-2 : getD starts 2 0 ≡ getD ends 2 0) (at-3 : getD starts 3 0 ≡ getD ends 4 0) (at-4 : getD starts 4 0 ≡ getD ends 6 0) where
+      held : (k p : ℕ) → k < 5 → getD starts k 0 ≤ p → p ≤ getD starts k 0 + 1 → Held starts p
+      held k p i a b = record { range = k; is-range = i; from = a; to = b }
+
+      pub covers : Covers (q .own) (endsAt s q) starts
+      unfolding endsAt
+      covers =
+          let w = pairs (q .kind) in
+          let at : (d : ℕ) → getD ends d 0 ≡ getD (endsAt s q) d 0 = λ d. ap (λ (l : List ℕ). getD l d 0) e in
+          record {
+            self = at-0;
+            each = by-direction (λ d. Held starts (getD (endsAt s q) d 0))
+                (held 0 _ (omega arith) (omega arith) (omega arith))
+                (held 1 _ (omega arith) (omega (arith, at 1)) (omega (arith, at 1)))
+                (held 2 _ (omega arith) (omega (arith, at 2)) (omega (arith, at 2)))
+                (held 3 _ (omega arith) (omega (arith, at 4)) (omega (arith, at 4)))
+                (held 3 _ (omega arith) (omega (arith, at 4)) (omega (arith, at 4)))
+                (held 4 _ (omega arith) (omega (arith, at 6)) (omega (arith, at 6)))
+                (held 4 _ (omega arith) (omega (arith, at 6)) (omega (arith, at 6)));
+            small = λ k i. by-direction (λ k. k < 5 → getD starts k 0 ≤ 1100000)
+                (λ i. omega (arith, site-numbers s q h g))
+                (λ i. omega (arith, at 1, end-small 1 (omega arith)))
+                (λ i. omega (arith, at 2, end-small 2 (omega arith)))
+                (λ i. omega (arith, at 4, end-small 4 (omega arith)))
+                (λ i. omega (arith, at 6, end-small 6 (omega arith)))
+                (λ i. absurd (omega arith)) (λ i. absurd (omega arith)) k (omega arith) i;
+          }
