@@ -18,15 +18,15 @@ use Rattle.moving.specs.Moving.{labelAfter}
 use Rattle.stencil.specs.Stencil.{stencilOf}
 use Rattle.stencil.specs.Tetrahedron.{q3}
 use Rattle.stencil.proofs.Sign.{winds}
-use Rattle.emit.specs.declared.Tetra.{Tetra}
-use Rattle.emit.specs.declared.Weights.{Weights}
+use Rattle.rows.specs.declared.Tetra.{Tetra}
+use Rattle.rows.specs.declared.Weights.{Weights}
 use Rattle.emit.specs.declared.Cube.{Cube}
 use Rattle.emit.specs.declared.CubeWeights.{CubeWeights}
-use Rattle.emit.specs.inner.Corners.{most, quarterAt}
-use Rattle.emit.specs.inner.Picks.{weight, sum}
-use Rattle.emit.specs.inner.Stencils.{KnownTetra, Small, Room, rowCount, tetraIds, solid}
+use Rattle.rows.specs.inner.Corners.{most, quarterAt}
+use Rattle.rows.specs.inner.Picks.{weight, sum}
+use Rattle.rows.specs.inner.Stencils.{KnownTetra, Small, Room, rowCount, tetraIds, solid}
 use Rattle.emit.specs.inner.Cubes.{quarterOf, quarterWeights, KnownCube, SmallCube, counted, total, plusAt, plusCount, unmoved, solidCube, cubeCount, weightAt, cubeWeights, edgeIds, cubeIds}
-use Rattle.emit.proofs.StencilLaws.{tetra-long, tetra-most, empty, solid-long}
+use Rattle.rows.proofs.StencilLaws.{tetra-long, tetra-most, empty, solid-long}
 use Rattle.emit.proofs.Written.{bounded}
 
 -- the last edge, for any number that is none of the others

@@ -14,12 +14,12 @@ use Rattle.lattice.specs.Counts.{Sized, corners, points}
 use Rattle.lattice.specs.Point.{linear}
 use Rattle.emit.specs.declared.Cube.{Cube}
 use Rattle.emit.specs.declared.Pass.{Pass}
-use Rattle.emit.specs.inner.Corners.{most, axisAt}
-use Rattle.emit.specs.inner.Stencils.{Room, rowsMost}
+use Rattle.rows.specs.inner.Corners.{most, axisAt}
+use Rattle.rows.specs.inner.Stencils.{Room, rowsMost}
 use Rattle.emit.specs.inner.Cubes.{KnownCube, plusCount, cubeIds}
 use Rattle.emit.specs.inner.Passes.{movedCube, KnownRun, placedIds, runIds, InPass, firstCorner, firstCentre, lineIds, layerIds, passIds, lineMost, layerMost, passMost, Tables, stepBy, passOf, blockIds}
 use Rattle.emit.proofs.CubeLaws.{known-within, cube-most, bare-cube}
-use Rattle.emit.proofs.StencilLaws.{empty}
+use Rattle.rows.proofs.StencilLaws.{empty}
 use Rattle.emit.proofs.Written.{bounded, Written, index-most, room-left}
 use Rattle.emit.proofs.Numbers.{pass-in, sizes-are}
 

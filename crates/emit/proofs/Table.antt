@@ -21,16 +21,16 @@ use Rattle.stencil.proofs.Sign.{signed, winds}
 use Rattle.filling.specs.Mesh.{ids, table}
 use Rattle.filling.specs.Fill.{overwritten}
 use Rattle.emit.specs.declared.Cube.{Cube}
-use Rattle.emit.specs.declared.Weights.{Weights}
-use Rattle.emit.specs.inner.Corners.{axisAt, quarterAt, cornerOf}
-use Rattle.emit.specs.inner.Stencils.{Room, tetraIds}
+use Rattle.rows.specs.declared.Weights.{Weights}
+use Rattle.rows.specs.inner.Corners.{axisAt, quarterAt, cornerOf}
+use Rattle.rows.specs.inner.Stencils.{Room, tetraIds}
 use Rattle.emit.specs.inner.Cubes.{labelIn, weightAt, cubeWeights, quarterOf, quarterWeights, edgeIds, cubeIds}
 use Rattle.emit.specs.inner.Passes.{movedCube, firstCorner, firstCentre, placedIds, runIds, lineIds, layerIds, passIds, stepBy, passOf, blockIds}
 use Rattle.emit.specs.inner.Mesh.{labelsOf, signedRows, rowTotal, signedTable}
 use Rattle.emit.proofs.Written.{gather-append}
 use Rattle.emit.proofs.Numbers.{cubeOf, tetrahedron, edgeNumber, numbers-are, counts-are, sizes-are}
-use Rattle.emit.proofs.Patterns.{weights}
-use Rattle.emit.proofs.Ids.{idBy, id-is, tetra-is}
+use Rattle.rows.proofs.Patterns.{weights}
+use Rattle.rows.proofs.Ids.{idBy, id-is, tetra-is}
 
 -- parts of parts
 pub gather-gather : {A B : Type 0} (f : B → List ℕ) (g : A → List B) (l : List A) → gather f (gather g l) ≡ gather (λ x. gather f (g x)) l

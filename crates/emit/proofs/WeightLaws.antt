@@ -15,7 +15,7 @@ use Rattle.basics.specs.Choice.{if_then_else_}
 use Rattle.moving.specs.Label.{labelOf, isPlus}
 use Rattle.moving.specs.Moving.{labelAfter}
 use Rattle.ground.proofs.Labels.{plus-test}
-use Rattle.emit.specs.inner.Picks.{weight}
+use Rattle.rows.specs.inner.Picks.{weight}
 use Rattle.emit.specs.inner.Cubes.{weightAt, plusAt}
 
 plus-of : (x : ℤ) → ltZ (pos 0) x ≡ true → weight (labelOf x) ≡ 5

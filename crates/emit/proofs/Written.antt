@@ -8,14 +8,7 @@ use mathlib.Core.List.{List, [], _∷_, _++_, append-nil, append-assoc}
 use lib.ListN.{length, drop, set, length-append}
 use lib.Seq.{sets, sets-eq, length-sets}
 use Rattle.basics.specs.Lists.{gather, from, below}
-use Rattle.emit.specs.inner.Stencils.{Room}
-
--- writing two lists is writing the one and then the other
-pub sets-append : (xs ys l : List ℕ) (i : ℕ) → sets l i (xs ++ ys) ≡ sets (sets l i xs) (i + length xs) ys
-sets-append [] ys l i = rw (add-zero i) refl
-sets-append (x ∷ xs) ys l i =
-    let e : suc i + length xs ≡ i + suc (length xs) = omega arith in
-    sets-append xs ys (set l i x) (suc i) ∙ ap (λ (k : ℕ). sets (sets (set l i x) (suc i) xs) k ys) e
+use Rattle.rows.specs.inner.Stencils.{Room}
 
 -- nothing is written into an empty table
 pub sets-none : (l vs : List ℕ) (i : ℕ) → length l ≡ 0 → l ≡ sets l i vs

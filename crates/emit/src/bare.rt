@@ -5,7 +5,7 @@ ghost use mathlib.Core.Path.{_≡_};
 ghost use mathlib.Core.Bool.{true, false};
 ghost use Prim.Native.Nat.{ℕ, _+_, _<_, _≤_};
 ghost use lib.ListN.{length};
-ghost use Rattle.emit.specs.inner.Corners.{most};
+ghost use Rattle.rows.specs.inner.Corners.{most};
 ghost use Rattle.emit.specs.inner.Cubes.{Light, plusCount};
 ghost use Rattle.emit.specs.inner.Passes.{movedCube, KnownRun};
 

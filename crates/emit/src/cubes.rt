@@ -2,12 +2,13 @@
 // corners of the shared face in their turn, and the weights of their labels, read once.
 use crate::Cube;
 use crate::CubeWeights;
-use crate::Tetra;
-use crate::Weights;
-use crate::stencils;
-use crate::writing;
 use ground::Place;
+use ground::signs;
 use ground::volume;
+use rows::Tetra;
+use rows::Weights;
+use rows::stencils;
+use rows::writing;
 ghost use mathlib.Core.Path.{_≡_};
 ghost use Prim.Native.Nat.{_+_, _<_, _≤_};
 ghost use lib.ListN.{length, getD};
@@ -16,9 +17,9 @@ ghost use Rattle.basics.specs.Lists.{gather, below};
 ghost use Rattle.moving.specs.Label.{labelOf};
 ghost use Rattle.stencil.proofs.Sign.{winds};
 ghost use Rattle.ground.specs.inner.Places.{placeAt, InBox, placeBox};
-ghost use Rattle.emit.specs.inner.Corners.{most, quarterAt};
-ghost use Rattle.emit.specs.inner.Picks.{weight};
-ghost use Rattle.emit.specs.inner.Stencils.{Room, rowsMost};
+ghost use Rattle.rows.specs.inner.Corners.{most, quarterAt};
+ghost use Rattle.rows.specs.inner.Picks.{weight};
+ghost use Rattle.rows.specs.inner.Stencils.{Room, rowsMost};
 ghost use Rattle.emit.specs.inner.Cubes.{weightAt, windsWith, cubeWeights, quarterOf, quarterWeights, KnownCube, SmallCube, plusAt, plusCount, unmoved, solidCube, cubeCount, edgeIds, cubeIds};
 
 // The weight of a sample's sign.

@@ -11,10 +11,10 @@ ghost use Prim.Native.Nat.{_+_, _*_, _<_, _≤_};
 ghost use lib.ListN.{length};
 ghost use lib.Seq.{sets};
 ghost use Rattle.lattice.specs.Counts.{Sized, points};
-ghost use Rattle.emit.specs.inner.Stencils.{Room, rowsMost};
+ghost use Rattle.rows.specs.inner.Stencils.{Room, rowsMost};
 ghost use Rattle.emit.specs.inner.Passes.{movedCube, KnownRun, InPass, Tables, runIds, lineIds, layerIds, passIds, lineMost, layerMost, passMost, stepBy, passOf, blockIds};
 ghost use Rattle.filling.specs.Fill.{overwritten};
-ghost use Rattle.emit.specs.inner.Corners.{most, axisAt};
+ghost use Rattle.rows.specs.inner.Corners.{most, axisAt};
 ghost use Rattle.emit.specs.inner.Mesh.{rowTotal, signedTable};
 ghost use Rattle.emit.specs.inner.Cubes.{KnownCube};
 

@@ -18,14 +18,14 @@ use Rattle.moving.specs.declared.Label.{Label}
 use Rattle.moving.specs.Label.{labelOf, isPlus}
 use Rattle.moving.specs.Moving.{labelAfter}
 use Rattle.stencil.proofs.Sign.{winds}
-use Rattle.emit.specs.declared.Tetra.{Tetra}
-use Rattle.emit.specs.declared.Weights.{Weights}
+use Rattle.rows.specs.declared.Tetra.{Tetra}
+use Rattle.rows.specs.declared.Weights.{Weights}
 use Rattle.emit.specs.declared.Cube.{Cube}
 use Rattle.emit.specs.declared.CubeWeights.{CubeWeights}
-use Rattle.emit.specs.inner.Corners.{quarterAt}
+use Rattle.rows.specs.inner.Corners.{quarterAt}
 use Rattle.stencil.specs.Stencil.{stencilOf}
-use Rattle.emit.specs.inner.Picks.{weight, sum}
-use Rattle.emit.specs.inner.Stencils.{rowCount, tetraIds}
+use Rattle.rows.specs.inner.Picks.{weight, sum}
+use Rattle.rows.specs.inner.Stencils.{rowCount, tetraIds}
 
 -- the label of a point after moving needs neither sizes nor cuts
 abbrev pub labelIn : List ℤ → List ℕ → ℕ → Label

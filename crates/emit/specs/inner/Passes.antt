@@ -13,7 +13,7 @@ use Rattle.lattice.specs.Point.{linear}
 use Rattle.stencil.specs.Tetrahedron.{axes}
 use Rattle.emit.specs.declared.Cube.{Cube}
 use Rattle.emit.specs.declared.Pass.{Pass}
-use Rattle.emit.specs.inner.Corners.{most}
+use Rattle.rows.specs.inner.Corners.{most}
 use Rattle.emit.specs.inner.Cubes.{KnownCube, cubeIds}
 
 -- six points counted from a corner and a centre

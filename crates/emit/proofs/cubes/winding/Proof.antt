@@ -1,6 +1,6 @@
 -- The sign of a signed triple product, computed for each edge of the turn. Assumes nothing.
 use Rattle.emit.proofs.CubeLaws.{last-winds}
-use Rattle.emit.specs.inner.Corners.{quarterAt}
+use Rattle.rows.specs.inner.Corners.{quarterAt}
 use Rattle.stencil.proofs.Sign.{winds}
 use Rattle.geometry.specs.Volume.{sixVolume, triple, dot, cross}
 use mathlib.Core.Path.{sym, ap, _∙_}

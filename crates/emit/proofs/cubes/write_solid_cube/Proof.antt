@@ -1,5 +1,5 @@
 -- Four rows, one after the other, or counted into an empty table. Assumes nothing.
-use Rattle.emit.proofs.StencilLaws.{solid-long}
+use Rattle.rows.proofs.StencilLaws.{solid-long}
 use Rattle.emit.proofs.CubeLaws.{edge-known, solid-quarter, solid-edge, solid-edge-most, solid-cube-long}
 use Rattle.emit.proofs.Written.{Written, none-written, more-written, room-left, index-most, sets-none, kept-long, all-written}
 use Rattle.emit.specs.inner.Cubes.{edgeIds, solidCube}

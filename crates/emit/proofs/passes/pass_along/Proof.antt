@@ -1,6 +1,6 @@
 -- The strides along each axis, and how many cubes have a next one. Assumes nothing.
 use Rattle.emit.proofs.PassLaws.{layer-small, last-axis, along-x-is, along-y-is, along-z-is}
-use Rattle.emit.specs.inner.Corners.{axisAt}
+use Rattle.rows.specs.inner.Corners.{axisAt}
 use mathlib.Core.Path.{sym, ap, _∙_}
 use Prim.Native.Nat.{ℕ}
 use Rattle.emit.specs.inner.Passes.{passOf}
