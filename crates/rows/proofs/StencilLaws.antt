@@ -18,14 +18,16 @@ use Rattle.rows.specs.declared.Row.{Row}
 use Rattle.rows.specs.declared.Tetra.{Tetra}
 use Rattle.rows.specs.declared.Weights.{Weights}
 use Rattle.rows.specs.declared.Order.{Order}
-use Rattle.rows.specs.inner.Corners.{axisAt, quarterAt, vertexAt, Known, KnownRow, cornerId, rowIds, turned, cornerOf, pointAt, cutAt, startBetween}
+use Rattle.rows.specs.inner.Corners.{most, axisAt, quarterAt, vertexAt, Known, KnownRow, rowIds}
+use Rattle.rows.specs.inner.Corners.{cornerOf, pointAt, cutAt, startBetween}
 use Rattle.rows.specs.inner.Picks.{sum, picked, chosen, ordered, inversion, isEven}
-use Rattle.rows.specs.inner.Stencils.{lines, turnedRow, stencilRows, KnownRows, none, more, allIds, rowCount, tetraIds, KnownTetra, InOrder, solid}
+use Rattle.rows.specs.inner.Stencils.{lines, turnedRow, stencilRows, KnownRows, none, more, Ready, Wrote}
+use Rattle.rows.specs.inner.Stencils.{allIds, rowCount, tetraIds, KnownTetra, InOrder, solid, tetraMost}
 use Rattle.rows.proofs.CornerLaws.{way-lt}
 use Rattle.rows.proofs.Sets.{sets-append}
 
 -- as many rows as the table has
-pub lines-count : {A B : Type 0} (point : ℕ → A) (cut : ℕ → ℕ → A) (row : Bool → A → A → A → A → B) (st : Stencil) (o : Order) (k : Bool)
+lines-count : {A B : Type 0} (point : ℕ → A) (cut : ℕ → ℕ → A) (row : Bool → A → A → A → A → B) (st : Stencil) (o : Order) (k : Bool)
     → length (lines point cut row st o k) ≡ rowCount st
 unfolding lines rowCount
 lines-count point cut row no-plus o k = refl
@@ -37,7 +39,7 @@ lines-count point cut row +--- o k = refl
 lines-count point cut row +--0 o k = refl
 lines-count point cut row +-00 o k = refl
 
-pub count-most : (st : Stencil) → rowCount st ≤ 3
+count-most : (st : Stencil) → rowCount st ≤ 3
 unfolding rowCount
 count-most no-plus = omega arith
 count-most plus-zero-only = omega arith
@@ -49,7 +51,7 @@ count-most +--0 = omega arith
 count-most +-00 = omega arith
 
 -- four ids a row
-pub ids-long : (n : ℕ) (l : List Row) → length (allIds n l) ≡ 4 * length l
+ids-long : (n : ℕ) (l : List Row) → length (allIds n l) ≡ 4 * length l
 unfolding allIds gather rowIds
 ids-long n [] = refl
 ids-long n (r ∷ l) = omega (arith, ids-long n l)
@@ -60,7 +62,7 @@ tetra-long n wound t w =
     ids-long n (stencilRows t (ordered w) (Bool·beq wound (isEven w)) (stencilOf (sum w)))
     ∙ ap (λ (k : ℕ). 4 * k) (lines-count (pointAt t) (cutAt t) turnedRow (stencilOf (sum w)) (ordered w) (Bool·beq wound (isEven w)))
 
-pub tetra-most : (n : ℕ) (wound : Bool) (t : Tetra) (w : Weights) → length (tetraIds n wound t w) ≤ 12
+pub tetra-most : (n : ℕ) (wound : Bool) (t : Tetra) (w : Weights) → length (tetraIds n wound t w) ≤ tetraMost
 tetra-most n wound t w = omega (arith, tetra-long n wound t w, count-most (stencilOf (sum w)))
 
 -- the corners of a tetrahedron's rows are known
@@ -82,53 +84,89 @@ module _ (n : ℕ) (t : Tetra) (h : KnownTetra n t) where
     way-lt (axisAt (t .axis)) (quarterAt (t .edge)) (vertexAt u) (vertexAt v),
   )
 
-turned-known : (n : ℕ) (k : Bool) (a b c d : Corner) → Known n a → Known n b → Known n c → Known n d → KnownRow n (turnedRow k a b c d)
-turned-known n true a b c d p q r s = record { first = p; second = q; third = r; fourth = s }
-turned-known n false a b c d p q r s = record { first = p; second = q; third = s; fourth = r }
+-- a known corner, so that a row tells which ones it has
+record KnownCorner (n : ℕ) (c : Corner) : Type 0 where
+  is : Known n c
 
-pub lines-known : (n : ℕ) (point : ℕ → Corner) (cut : ℕ → ℕ → Corner) → ((v : ℕ) → Known n (point v)) → ((u v : ℕ) → Known n (cut u v))
-    → (st : Stencil) (o : Order) (k : Bool) → KnownRows n (lines point cut turnedRow st o k)
-unfolding lines
-lines-known n point cut P C no-plus o k = none
-lines-known n point cut P C plus-zero-only o k =
-    more (turned-known n k (point (o .first)) (point (o .second)) (point (o .third)) (point (o .fourth)) (P (o .first)) (P (o .second)) (P (o .third)) (P (o .fourth))) none
-lines-known n point cut P C +++- o k =
-    more (turned-known n k (point (o .first)) (point (o .second)) (point (o .third)) (cut (o .third) (o .fourth)) (P (o .first)) (P (o .second)) (P (o .third)) (C (o .third) (o .fourth)))
-    (more (turned-known n (not k) (point (o .first)) (point (o .second)) (cut (o .second) (o .fourth)) (cut (o .third) (o .fourth)) (P (o .first)) (P (o .second)) (C (o .second) (o .fourth)) (C (o .third) (o .fourth)))
-    (more (turned-known n k (point (o .first)) (cut (o .first) (o .fourth)) (cut (o .second) (o .fourth)) (cut (o .third) (o .fourth)) (P (o .first)) (C (o .first) (o .fourth)) (C (o .second) (o .fourth)) (C (o .third) (o .fourth))) none))
-lines-known n point cut P C ++-- o k =
-    more (turned-known n k (point (o .first)) (point (o .second)) (cut (o .second) (o .third)) (cut (o .second) (o .fourth)) (P (o .first)) (P (o .second)) (C (o .second) (o .third)) (C (o .second) (o .fourth)))
-    (more (turned-known n k (point (o .first)) (cut (o .first) (o .third)) (cut (o .first) (o .fourth)) (cut (o .second) (o .fourth)) (P (o .first)) (C (o .first) (o .third)) (C (o .first) (o .fourth)) (C (o .second) (o .fourth)))
-    (more (turned-known n (not k) (point (o .first)) (cut (o .first) (o .third)) (cut (o .second) (o .third)) (cut (o .second) (o .fourth)) (P (o .first)) (C (o .first) (o .third)) (C (o .second) (o .third)) (C (o .second) (o .fourth))) none))
-lines-known n point cut P C ++-0 o k =
-    more (turned-known n k (point (o .first)) (point (o .second)) (cut (o .second) (o .third)) (point (o .fourth)) (P (o .first)) (P (o .second)) (C (o .second) (o .third)) (P (o .fourth)))
-    (more (turned-known n (not k) (point (o .first)) (cut (o .first) (o .third)) (cut (o .second) (o .third)) (point (o .fourth)) (P (o .first)) (C (o .first) (o .third)) (C (o .second) (o .third)) (P (o .fourth))) none)
-lines-known n point cut P C +--- o k =
-    more (turned-known n k (point (o .first)) (cut (o .first) (o .second)) (cut (o .first) (o .third)) (cut (o .first) (o .fourth)) (P (o .first)) (C (o .first) (o .second)) (C (o .first) (o .third)) (C (o .first) (o .fourth))) none
-lines-known n point cut P C +--0 o k =
-    more (turned-known n k (point (o .first)) (cut (o .first) (o .second)) (cut (o .first) (o .third)) (point (o .fourth)) (P (o .first)) (C (o .first) (o .second)) (C (o .first) (o .third)) (P (o .fourth))) none
-lines-known n point cut P C +-00 o k =
-    more (turned-known n k (point (o .first)) (cut (o .first) (o .second)) (point (o .third)) (point (o .fourth)) (P (o .first)) (C (o .first) (o .second)) (P (o .third)) (P (o .fourth))) none
+turned-known : {n : ℕ} (k : Bool) {a b c d : Corner} → KnownCorner n a → KnownCorner n b → KnownCorner n c → KnownCorner n d
+    → KnownRow n (turnedRow k a b c d)
+turned-known true p q r s = record { first = p .is; second = q .is; third = r .is; fourth = s .is }
+turned-known false p q r s = record { first = p .is; second = q .is; third = s .is; fourth = r .is }
 
-pub rows-known : (n : ℕ) (t : Tetra) → KnownTetra n t → (o : Order) (k : Bool) (st : Stencil) → KnownRows n (stencilRows t o k st)
-rows-known n t h o k st = lines-known n (pointAt t) (cutAt t) (point-known n t h) (cut-known n t h) st o k
+module _ (n : ℕ) (point : ℕ → Corner) (cut : ℕ → ℕ → Corner) (P : (v : ℕ) → Known n (point v)) (C : (u v : ℕ) → Known n (cut u v))
+    (o : Order) (k : Bool) where
+  p1 : KnownCorner n (point (o .first))
+  p1 = record { is = P (o .first) }
 
-pub first-known : {n : ℕ} {r : Row} {l : List Row} → KnownRows n (r ∷ l) → KnownRow n r
+  p2 : KnownCorner n (point (o .second))
+  p2 = record { is = P (o .second) }
+
+  p3 : KnownCorner n (point (o .third))
+  p3 = record { is = P (o .third) }
+
+  p4 : KnownCorner n (point (o .fourth))
+  p4 = record { is = P (o .fourth) }
+
+  cut-of : (u v : ℕ) → KnownCorner n (cut u v)
+  cut-of u v = record { is = C u v }
+
+  c12 : KnownCorner n (cut (o .first) (o .second))
+  c12 = cut-of (o .first) (o .second)
+
+  c13 : KnownCorner n (cut (o .first) (o .third))
+  c13 = cut-of (o .first) (o .third)
+
+  c14 : KnownCorner n (cut (o .first) (o .fourth))
+  c14 = cut-of (o .first) (o .fourth)
+
+  c23 : KnownCorner n (cut (o .second) (o .third))
+  c23 = cut-of (o .second) (o .third)
+
+  c24 : KnownCorner n (cut (o .second) (o .fourth))
+  c24 = cut-of (o .second) (o .fourth)
+
+  c34 : KnownCorner n (cut (o .third) (o .fourth))
+  c34 = cut-of (o .third) (o .fourth)
+
+  lines-known : (st : Stencil) → KnownRows n (lines point cut turnedRow st o k)
+  unfolding lines
+  lines-known no-plus = none
+  lines-known plus-zero-only = more (turned-known k p1 p2 p3 p4) none
+  lines-known +++- =
+      more (turned-known k p1 p2 p3 c34) (more (turned-known (not k) p1 p2 c24 c34) (more (turned-known k p1 c14 c24 c34) none))
+  lines-known ++-- =
+      more (turned-known k p1 p2 c23 c24) (more (turned-known k p1 c13 c14 c24) (more (turned-known (not k) p1 c13 c23 c24) none))
+  lines-known ++-0 = more (turned-known k p1 p2 c23 p4) (more (turned-known (not k) p1 c13 c23 p4) none)
+  lines-known +--- = more (turned-known k p1 c12 c13 c14) none
+  lines-known +--0 = more (turned-known k p1 c12 c13 p4) none
+  lines-known +-00 = more (turned-known k p1 c12 p3 p4) none
+
+rows-known : (n : ℕ) (t : Tetra) → KnownTetra n t → (o : Order) (k : Bool) (st : Stencil) → KnownRows n (stencilRows t o k st)
+rows-known n t h o k = lines-known n (pointAt t) (cutAt t) (point-known n t h) (cut-known n t h) o k
+
+first-known : {n : ℕ} {r : Row} {l : List Row} → KnownRows n (r ∷ l) → KnownRow n r
 first-known (more p q) = p
 
-pub rest-known : {n : ℕ} {r : Row} {l : List Row} → KnownRows n (r ∷ l) → KnownRows n l
+rest-known : {n : ℕ} {r : Row} {l : List Row} → KnownRows n (r ∷ l) → KnownRows n l
 rest-known (more p q) = q
 
--- rows one after the other
+-- rows one after the other: the first may be written, and then the rest, four numbers on
+module _ {n : ℕ} {a : Row} {rs : List Row} {m at : ℕ} (r : Ready n (a ∷ rs) m at) where
+  pub first-ready : (n ≤ most) × (KnownRow n a × (at + 4 ≤ m))
+  first-ready = (r .few, (first-known (r .known), omega (arith, r .room)))
+
+  pub rest-ready : {k to : ℕ} → k ≡ m → to ≡ at + 4 → Ready n rs k to
+  rest-ready e f = record { few = r .few; known = rest-known (r .known); room = omega (arith, r .room) }
+
 module _ (n : ℕ) (l : List ℕ) (i : ℕ) (a : Row) where
   pub one-row : (now : List ℕ) → now ≡ sets l i (rowIds n a) → now ≡ sets l i (allIds n (a ∷ []))
   unfolding allIds gather
   one-row now e = e ∙ ap (sets l i) (sym (append-nil (rowIds n a)))
 
-  pub then-rows : (rs : List Row) (mid now : List ℕ) → mid ≡ sets l i (rowIds n a) → now ≡ sets mid (i + 4) (allIds n rs)
-      → now ≡ sets l i (allIds n (a ∷ rs))
+  pub then-rows : (rs : List Row) (mid now : List ℕ) (to : ℕ) → mid ≡ sets l i (rowIds n a) → to ≡ i + 4
+      → now ≡ sets mid to (allIds n rs) → now ≡ sets l i (allIds n (a ∷ rs))
   unfolding allIds gather rowIds
-  then-rows rs mid now e f = f ∙ rw e (sym (sets-append (rowIds n a) (allIds n rs) l i))
+  then-rows rs mid now to e g f = f ∙ rw (e, g) (sym (sets-append (rowIds n a) (allIds n rs) l i))
 
 -- an order that is made of corners stays among them
 pub record Among (o : Order) : Type 0 where
@@ -148,7 +186,7 @@ choose-among k w o a =
     pick-among (eqb (w .a) k) 0 _ (omega arith) (pick-among (eqb (w .b) k) 1 _ (omega arith)
     (pick-among (eqb (w .c) k) 2 _ (omega arith) (pick-among (eqb (w .d) k) 3 o (omega arith) a)))
 
-pub ordered-among : (w : Weights) → Among (ordered w)
+ordered-among : (w : Weights) → Among (ordered w)
 unfolding ordered
 ordered-among w =
     choose-among 5 w _ (choose-among 1 w _ (choose-among 0 w _
@@ -167,8 +205,9 @@ count-one n h p q r =
     go false false false = refl
 
 -- a row from its corners
-pub row-is : (k : Bool) (r : Row) (a b c d e f g h : Corner) → r ≡ turnedRow k a b c d → a ≡ e → b ≡ f → c ≡ g → d ≡ h → r ≡ turnedRow k e f g h
-row-is k r a b c d e f g h q p₁ p₂ p₃ p₄ = q ∙ (λ i. turnedRow k (p₁ i) (p₂ i) (p₃ i) (p₄ i))
+pub row-is : (k : Bool) {r : Row} {a b c d e f g h : Corner} → r ≡ turnedRow k a b c d → a ≡ e → b ≡ f → c ≡ g → d ≡ h
+    → r ≡ turnedRow k e f g h
+row-is k q p₁ p₂ p₃ p₄ = q ∙ (λ i. turnedRow k (p₁ i) (p₂ i) (p₃ i) (p₄ i))
 
 pub beq-true : (a b : Bool) → a ≡ true → b ≡ Bool·beq a b
 beq-true a true e = rw e refl
@@ -178,17 +217,17 @@ pub beq-false : (a b : Bool) → a ≡ false → not b ≡ Bool·beq a b
 beq-false a true e = rw e refl
 beq-false a false e = rw e refl
 
+-- a list without entries
 pub empty : (l : List ℕ) → length l ≡ 0 → l ≡ []
 empty [] e = refl
 empty (x ∷ l) e = absurd (omega arith)
 
 module _ (n : ℕ) (wound : Bool) (t : Tetra) (w : Weights) where
   -- a tetrahedron without rows
-  pub none-for : (c : ℕ) → c ≡ rowCount (stencilOf (sum w)) → c ≡ 0 → (l : List ℕ) (i : ℕ)
-      → (i ≡ i + length (tetraIds n wound t w)) × (l ≡ sets l i (tetraIds n wound t w))
+  pub none-for : (c : ℕ) → c ≡ rowCount (stencilOf (sum w)) → c ≡ 0 → (l : List ℕ) (i : ℕ) → Wrote (tetraIds n wound t w) l i l i
   none-for c e z l i =
       let long = tetra-long n wound t w in
-      (omega arith, rw (empty (tetraIds n wound t w) (omega arith)) refl)
+      record { now-is = rw (empty (tetraIds n wound t w) (omega arith)) refl; to-is = omega arith }
 
   module _ (o : Order) (even keep : Bool) (rows : List Row) (p : o ≡ ordered w) (q : even ≡ isEven w) (r : keep ≡ Bool·beq wound even)
       (s : rows ≡ stencilRows t o keep (stencilOf (sum w))) where
@@ -196,21 +235,22 @@ module _ (n : ℕ) (wound : Bool) (t : Tetra) (w : Weights) where
     same-rows = s ∙ (λ i. stencilRows t (p i) ((r ∙ ap (Bool·beq wound) q) i) (stencilOf (sum w)))
 
     pub written-for : (c : ℕ) → c ≡ rowCount (stencilOf (sum w)) → (l now : List ℕ) (i : ℕ) → now ≡ sets l i (allIds n rows)
-        → (i + 4 * c ≡ i + length (tetraIds n wound t w)) × (now ≡ sets l i (tetraIds n wound t w))
+        → Wrote (tetraIds n wound t w) l i now (i + 4 * c)
     unfolding tetraIds
     written-for c e l now i h =
         let long = tetra-long n wound t w in
-        (omega arith, h ∙ ap (λ (x : List Row). sets l i (allIds n x)) same-rows)
+        record { now-is = h ∙ ap (λ (x : List Row). sets l i (allIds n x)) same-rows; to-is = omega arith }
 
-    pub known-for : KnownTetra n t → KnownRows n rows
-    known-for h = rw same-rows (rows-known n t h (ordered w) (Bool·beq wound (isEven w)) (stencilOf (sum w)))
-
-    pub room-for : (l : List ℕ) (i : ℕ) → i + length (tetraIds n wound t w) ≤ length l → i + 4 * length rows ≤ length l
+    pub ready-for : n ≤ most → KnownTetra n t → (m i : ℕ) → i + length (tetraIds n wound t w) ≤ m → Ready n rows m i
     unfolding tetraIds
-    room-for l i g =
+    ready-for f h m i g =
         let long = ids-long n rows in
         let same = ap (λ (x : List Row). length (allIds n x)) same-rows in
-        omega arith
+        record {
+          few = f;
+          known = rw same-rows (rows-known n t h (ordered w) (Bool·beq wound (isEven w)) (stencilOf (sum w)));
+          room = omega arith;
+        }
 
 pub in-order : (n : ℕ) (t : Tetra) (w : Weights) (o : Order) → KnownTetra n t → o ≡ ordered w → InOrder t o
 in-order n t w o h e =
@@ -247,8 +287,9 @@ module _ (n : ℕ) (wound : Bool) (t : Tetra) where
     the-row = ap (λ (x : Row). x ∷ []) s
 
     pub solid-known : KnownTetra n t → KnownRow n r
-    solid-known h = first-known (known-for n wound t solid ascending true wound (r ∷ []) solid-order solid-even (beq-right wound) the-row h)
+    solid-known h = first-known {l = []} (rw the-row (rows-known n t h ascending wound (stencilOf (sum solid))))
 
     pub solid-written : (l now : List ℕ) (i : ℕ) → now ≡ sets l i (rowIds n r) → now ≡ sets l i (tetraIds n wound t solid)
     solid-written l now i h =
-        written-for n wound t solid ascending true wound (r ∷ []) solid-order solid-even (beq-right wound) the-row 1 solid-count l now i (one-row n l i r now h) .1
+        written-for n wound t solid ascending true wound (r ∷ []) solid-order solid-even (beq-right wound) the-row 1 solid-count
+        l now i (one-row n l i r now h) .now-is

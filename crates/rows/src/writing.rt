@@ -8,16 +8,14 @@ use crate::picks;
 use crate::stencils;
 ghost use mathlib.Core.Path.{_≡_};
 ghost use mathlib.Core.Bool.{Bool·beq};
-ghost use Prim.Native.Nat.{_+_, _*_, _<_, _≤_};
+ghost use Prim.Native.Nat.{_+_, _≤_};
 ghost use lib.ListN.{length};
 ghost use lib.Seq.{sets};
 ghost use Rattle.rows.specs.inner.Corners.{most};
-ghost use Rattle.rows.specs.inner.Stencils.{listed, KnownRows, allIds, KnownTetra, tetraIds, Small, rowsMost, solid};
+ghost use Rattle.rows.specs.inner.Stencils.{listed, Ready, allIds, KnownTetra, tetraIds, Small, tetraMost, rowsMost, Wrote, solid};
 
 fn write(rows: &mut [u32], at: usize, n: usize, r: Rows)
-    requires { ⌜ n ≤ most ⌝ }
-    requires { ⌜ KnownRows n (listed r) ⌝ }
-    requires { ⌜ at + 4 * length (listed r) ≤ length (now rows) ⌝ }
+    requires { ⌜ Ready n (listed r) (length (now rows)) at ⌝ }
     ensures { λ _. ⌜ now (rows .exit) ≡ sets (now (rows .entry)) at (allIds n (listed r)) ⌝ }
 {
     match r {
@@ -57,10 +55,9 @@ pub fn write_tetra(
     requires { ⌜ n ≤ most ⌝ }
     requires { ⌜ KnownTetra n t ⌝ }
     requires { ⌜ Small w ⌝ }
-    requires { ⌜ at + 12 ≤ rowsMost ⌝ }
+    requires { ⌜ at + tetraMost ≤ rowsMost ⌝ }
     requires { ⌜ at + length (tetraIds n wound t w) ≤ length (now rows) ⌝ }
-    ensures { λ r. ⌜ r ≡ at + length (tetraIds n wound t w) ⌝ }
-    ensures { λ r. ⌜ now (rows .exit) ≡ sets (now (rows .entry)) at (tetraIds n wound t w) ⌝ }
+    ensures { λ r. ⌜ Wrote (tetraIds n wound t w) (now (rows .entry)) at (now (rows .exit)) r ⌝ }
 {
     let pattern = w.a + (w.b + (w.c + w.d));
     let count = stencils::row_count(pattern);

@@ -5,6 +5,7 @@ use mathlib.Core.List.{List, [], _∷_}
 use lib.Dec.{ltb, eqb}
 use Rattle.basics.specs.Choice.{if_then_else_}
 use Rattle.lattice.specs.Axis.{Axis, along-x, along-y, along-z}
+use Rattle.lattice.specs.Counts.{largest}
 use Rattle.lattice.specs.Direction.{directionOf}
 use Rattle.lattice.specs.Edge.{byteAt}
 use Rattle.stencil.specs.Tetrahedron.{Vertex, v0, v1, v2, v3, Quarter, q0, q1, q2, q3}
@@ -15,9 +16,9 @@ use Rattle.rows.specs.declared.Corner.the-variants.{Point, Edge}
 use Rattle.rows.specs.declared.Row.{Row}
 use Rattle.rows.specs.declared.Tetra.{Tetra}
 
--- how many points the largest block has
+-- how many points the largest block has: its cube corners and its cube centres
 abbrev pub most : ℕ
-most = 536769
+most = (largest + 1) * ((largest + 1) * (largest + 1)) + largest * (largest * largest)
 
 -- "with id p or N+7p+d", among n points
 abbrev pub cornerId : ℕ → Corner → ℕ
@@ -78,7 +79,8 @@ numberAt t v = cornerOf t (vertexAt v)
 unfoldable pub pointAt : Tetra → ℕ → Corner
 pointAt t v = Point (numberAt t v)
 
--- the cut between two corners of a tetrahedron of a kind: the code from the lower corner to the higher one, the start and the direction
+-- the cut between two corners of a tetrahedron of a kind: the code from the lower corner to the higher one, the start and
+-- the direction
 abbrev pub lowerFirst {ℓ} : {A : Type ℓ} → Vertex → Vertex → (Vertex → Vertex → A) → A
 lowerFirst u v f = if ltb (rank u) (rank v) then f u v else f v u
 

@@ -1,9 +1,12 @@
 -- The table of patterns and rows over the corners that the code holds, and the ids that are written.
 use Prim.Native.Nat.{ℕ, _+_, _*_, _≤_, _<_}
+use mathlib.Core.Path.{_≡_}
 use mathlib.Core.Bool.{Bool, not, Bool·beq}
 use mathlib.Core.List.{List, [], _∷_}
 use lib.ListN.{length}
+use lib.Seq.{sets}
 use Rattle.basics.specs.Lists.{gather}
+use Rattle.lattice.specs.Counts.{largest}
 use Rattle.stencil.specs.Stencil.{Stencil, no-plus, plus-zero-only, +++-, ++--, ++-0, +---, +--0, +-00, stencilOf}
 use Rattle.rows.specs.declared.Corner.{Corner}
 use Rattle.rows.specs.declared.Row.{Row}
@@ -12,7 +15,7 @@ use Rattle.rows.specs.declared.Rows.the-variants.{None, One, Two, Three}
 use Rattle.rows.specs.declared.Tetra.{Tetra}
 use Rattle.rows.specs.declared.Weights.{Weights}
 use Rattle.rows.specs.declared.Order.{Order}
-use Rattle.rows.specs.inner.Corners.{Tetrahedral, KnownRow, turned, pointAt, cutAt, rowIds}
+use Rattle.rows.specs.inner.Corners.{most, Tetrahedral, KnownRow, turned, pointAt, cutAt, rowIds}
 use Rattle.rows.specs.inner.Picks.{sum, ordered, isEven}
 
 -- a tetrahedron of one of the kinds, and an order of its corners
@@ -65,6 +68,17 @@ pub data KnownRows (n : ℕ) : List Row → Type 0 where
 unfoldable pub allIds : ℕ → List Row → List ℕ
 allIds n l = gather (rowIds n) l
 
+-- rows that may be written into a table of m numbers from an index on: their corners are known, and there is room for them
+pub record Ready (n : ℕ) (rows : List Row) (m at : ℕ) : Type 0 where
+  pub few : n ≤ most
+  pub known : KnownRows n rows
+  pub room : at + 4 * length rows ≤ m
+
+-- ids written into a table from an index on: what it then holds, and the index after them
+pub record Wrote (ids l : List ℕ) (at : ℕ) (now : List ℕ) (to : ℕ) : Type 0 where
+  pub now-is : now ≡ sets l at ids
+  pub to-is : to ≡ at + length ids
+
 -- how many rows a stencil has
 unfoldable pub rowCount : Stencil → ℕ
 rowCount no-plus = 0
@@ -98,10 +112,10 @@ tetraIds n wound t w = allIds n (stencilRows t (ordered w) (Bool·beq wound (isE
 abbrev pub solid : Weights
 solid = record { a = 5; b = 5; c = 5; d = 5 }
 
--- a row table that is empty, so that rows are only counted, or has room for m numbers from an index on
-pub record Room (l : List ℕ) (at m : ℕ) : Type 0 where
-  pub fits : 0 < length l → at + m ≤ length l
+-- no tetrahedron has more numbers in its rows: three rows of four
+abbrev pub tetraMost : ℕ
+tetraMost = 3 * 4
 
--- no block has more numbers in its rows: 3 axes, 64 by 64 by 64 cubes, 4 tetrahedra of 3 rows
+-- and no block: 3 axes, and for each as many cubes as there are, of 4 tetrahedra
 abbrev pub rowsMost : ℕ
-rowsMost = 37748736
+rowsMost = 3 * (largest * (largest * (largest * (4 * tetraMost))))

@@ -10,22 +10,42 @@ enum-known-c : tie.Need-enum-known-c
 enum-known-c c = search needs
 
 cast-result : tie.Need-cast-result
-cast-result c = let k = rw (c .before .c .given .1) at (c .before .before .before .pre .1) in let m = c .before .before .before .pre .0 in omega arith
+cast-result c =
+    let at-arm = c .before in
+    let at-start = at-arm .before .before in
+    let k = rw (at-arm .c .given .1) at (at-start .pre .1) in
+    omega (arith, at-start .pre .0)
 
 enum-known-c-2 : tie.Need-enum-known-c-2
 enum-known-c-2 c = search needs
 
 mul-result : tie.Need-mul-result
-mul-result c = let k = rw (c .before .c2 .given .1) at (c .before .before .before .pre .1) in let m = c .before .before .before .pre .0 in omega arith
+mul-result c =
+    let at-arm = c .before in
+    let at-start = at-arm .before .before in
+    let k = rw (at-arm .c2 .given .1) at (at-start .pre .1) in
+    omega (arith, at-start .pre .0)
 
 add-result : tie.Need-add-result
-add-result c = let k = rw (c .before .c2 .given .1) at (c .before .before .before .pre .1) in let m = c .before .before .before .pre .0 in omega arith
+add-result c =
+    let at-arm = c .before in
+    let at-start = at-arm .before .before in
+    let k = rw (at-arm .c2 .given .1) at (at-start .pre .1) in
+    omega (arith, at-start .pre .0)
 
 add-result-2 : tie.Need-add-result-2
-add-result-2 c = let k = rw (c .before .c2 .given .1) at (c .before .before .before .pre .1) in let m = c .before .before .before .pre .0 in omega arith
+add-result-2 c =
+    let at-arm = c .before in
+    let at-start = at-arm .before .before in
+    let k = rw (at-arm .c2 .given .1) at (at-start .pre .1) in
+    omega (arith, at-start .pre .0)
 
 cast-result-2 : tie.Need-cast-result-2
-cast-result-2 c = let k = rw (c .before .c2 .given .1) at (c .before .before .before .pre .1) in let m = c .before .before .before .pre .0 in omega arith
+cast-result-2 c =
+    let at-arm = c .before in
+    let at-start = at-arm .before .before in
+    let k = rw (at-arm .c2 .given .1) at (at-start .pre .1) in
+    omega (arith, at-start .pre .0)
 
 returns : tie.Need-returns
 returns c = search needs

@@ -22,4 +22,12 @@ returns : tie.Need-returns
 returns c = cc
 
 pub corner-row-spec : {M : Type 1} → statement M
-corner-row-spec = tie.close (tie.spec point-requires point-requires-2 point-requires-3 point-requires-4 turn-requires returns)
+corner-row-spec =
+    tie.close
+    (tie.spec
+    point-requires
+    point-requires-2
+    point-requires-3
+    point-requires-4
+    turn-requires
+    returns)

@@ -25,4 +25,12 @@ unfolding lines
 returns c = cc
 
 pub one-plus-one-minus-spec : {M : Type 1} → statement M
-one-plus-one-minus-spec = tie.close (tie.spec point-requires cut-requires point-requires-2 point-requires-3 turn-requires returns)
+one-plus-one-minus-spec =
+    tie.close
+    (tie.spec
+    point-requires
+    cut-requires
+    point-requires-2
+    point-requires-3
+    turn-requires
+    returns)

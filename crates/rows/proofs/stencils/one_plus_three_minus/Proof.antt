@@ -25,4 +25,12 @@ unfolding lines
 returns c = cc
 
 pub one-plus-three-minus-spec : {M : Type 1} → statement M
-one-plus-three-minus-spec = tie.close (tie.spec point-requires cut-requires cut-requires-2 cut-requires-3 turn-requires returns)
+one-plus-three-minus-spec =
+    tie.close
+    (tie.spec
+    point-requires
+    cut-requires
+    cut-requires-2
+    cut-requires-3
+    turn-requires
+    returns)

@@ -25,4 +25,12 @@ unfolding lines
 returns c = cc
 
 pub one-plus-two-minus-spec : {M : Type 1} → statement M
-one-plus-two-minus-spec = tie.close (tie.spec point-requires cut-requires cut-requires-2 point-requires-2 turn-requires returns)
+one-plus-two-minus-spec =
+    tie.close
+    (tie.spec
+    point-requires
+    cut-requires
+    cut-requires-2
+    point-requires-2
+    turn-requires
+    returns)

@@ -32,27 +32,27 @@ only-corners-requires c κs = search needs
 
 returns : tie.Need-returns
 unfolding stencilOf
-returns c = let a = c .before .before in c .one-plus-one-minus .ensures ∙ ap (λ (k : ℕ). stencilRows (a .args .t) (a .args .o) (a .args .keep) (stencilOf k)) (sym (c .before .match .keys1))
+returns c = rw (c .before .match .keys1) (c .one-plus-one-minus .ensures)
 
 returns-2 : tie.Need-returns-2
 unfolding stencilOf
-returns-2 c = let a = c .before .before in c .one-plus-two-minus .ensures ∙ ap (λ (k : ℕ). stencilRows (a .args .t) (a .args .o) (a .args .keep) (stencilOf k)) (sym (c .before .match .keys2))
+returns-2 c = rw (c .before .match .keys2) (c .one-plus-two-minus .ensures)
 
 returns-3 : tie.Need-returns-3
 unfolding stencilOf
-returns-3 c = let a = c .before .before in c .one-plus-three-minus .ensures ∙ ap (λ (k : ℕ). stencilRows (a .args .t) (a .args .o) (a .args .keep) (stencilOf k)) (sym (c .before .match .keys3))
+returns-3 c = rw (c .before .match .keys3) (c .one-plus-three-minus .ensures)
 
 returns-4 : tie.Need-returns-4
 unfolding stencilOf
-returns-4 c = let a = c .before .before in c .two-plus-one-minus .ensures ∙ ap (λ (k : ℕ). stencilRows (a .args .t) (a .args .o) (a .args .keep) (stencilOf k)) (sym (c .before .match .keys4))
+returns-4 c = rw (c .before .match .keys4) (c .two-plus-one-minus .ensures)
 
 returns-5 : tie.Need-returns-5
 unfolding stencilOf
-returns-5 c = let a = c .before .before in c .two-plus-two-minus .ensures ∙ ap (λ (k : ℕ). stencilRows (a .args .t) (a .args .o) (a .args .keep) (stencilOf k)) (sym (c .before .match .keys5))
+returns-5 c = rw (c .before .match .keys5) (c .two-plus-two-minus .ensures)
 
 returns-6 : tie.Need-returns-6
 unfolding stencilOf
-returns-6 c = let a = c .before .before in c .three-plus-one-minus .ensures ∙ ap (λ (k : ℕ). stencilRows (a .args .t) (a .args .o) (a .args .keep) (stencilOf k)) (sym (c .before .match .keys6))
+returns-6 c = rw (c .before .match .keys6) (c .three-plus-one-minus .ensures)
 
 returns-7 : tie.Need-returns-7
 unfolding stencilOf lines
@@ -60,7 +60,34 @@ returns-7 c = simp (le-leb (c .before .before .args .pattern) 4 (omega arith))
 
 returns-8 : tie.Need-returns-8
 unfolding stencilOf
-returns-8 c = let r = c .before .before .match .rest in c .only-corners .ensures ∙ simp (lt-leb _ _ (c .before .if1 .left), ne-eqb _ _ (r .1), ne-eqb _ _ (r .0 .1), ne-eqb _ _ (r .0 .0 .1), ne-eqb _ _ (r .0 .0 .0 .1), ne-eqb _ _ (r .0 .0 .0 .0 .1), ne-eqb _ _ (r .0 .0 .0 .0 .0 .1))
+returns-8 c =
+    let at-if = c .before in
+    let r = at-if .before .match .rest in
+    let not-sixteen = ne-eqb _ _ (r .1) in
+    let not-twelve = ne-eqb _ _ (r .0 .1) in
+    let not-eleven = ne-eqb _ _ (r .0 .0 .1) in
+    let not-eight = ne-eqb _ _ (r .0 .0 .0 .1) in
+    let not-seven = ne-eqb _ _ (r .0 .0 .0 .0 .1) in
+    let not-six = ne-eqb _ _ (r .0 .0 .0 .0 .0 .1) in
+    c .only-corners .ensures
+    ∙ simp (lt-leb _ _ (at-if .if1 .left), not-sixteen, not-twelve, not-eleven, not-eight, not-seven, not-six)
 
 pub rows-for-spec : {M : Type 1} → statement M
-rows-for-spec = tie.close (tie.spec one-plus-one-minus-requires one-plus-two-minus-requires one-plus-three-minus-requires two-plus-one-minus-requires two-plus-two-minus-requires three-plus-one-minus-requires only-corners-requires returns returns-2 returns-3 returns-4 returns-5 returns-6 returns-7 returns-8)
+rows-for-spec =
+    tie.close
+    (tie.spec
+    one-plus-one-minus-requires
+    one-plus-two-minus-requires
+    one-plus-three-minus-requires
+    two-plus-one-minus-requires
+    two-plus-two-minus-requires
+    three-plus-one-minus-requires
+    only-corners-requires
+    returns
+    returns-2
+    returns-3
+    returns-4
+    returns-5
+    returns-6
+    returns-7
+    returns-8)

@@ -31,4 +31,14 @@ unfolding lines
 returns c = cc
 
 pub two-plus-one-minus-spec : {M : Type 1} → statement M
-two-plus-one-minus-spec = tie.close (tie.spec point-requires point-requires-2 point-requires-3 cut-requires cut-requires-2 turn-requires turn-requires-2 returns)
+two-plus-one-minus-spec =
+    tie.close
+    (tie.spec
+    point-requires
+    point-requires-2
+    point-requires-3
+    cut-requires
+    cut-requires-2
+    turn-requires
+    turn-requires-2
+    returns)

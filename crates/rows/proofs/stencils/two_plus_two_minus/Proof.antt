@@ -37,7 +37,37 @@ turn-requires-3 c κs = search needs
 
 returns : tie.Need-returns
 unfolding lines
-returns c = let keep = c .before .before .before .before .before .before .before .before .before .args .keep in let p1 = c .before .before .before .before .before .before .before .before .point .ensures in let p2 = c .before .before .before .before .before .before .before .point2 .ensures in let p1m1 = c .before .before .before .before .before .before .cut .ensures in let p1m2 = c .before .before .before .before .before .cut2 .ensures in let p2m1 = c .before .before .before .before .cut3 .ensures in let p2m2 = c .before .before .before .cut4 .ensures in let first = row-is keep _ _ _ _ _ _ _ _ _ (c .before .before .turn .ensures) p1 p2 p2m1 p2m2 in let second = row-is keep _ _ _ _ _ _ _ _ _ (c .before .turn2 .ensures) p1 p1m1 p1m2 p2m2 in let third = row-is (not keep) _ _ _ _ _ _ _ _ _ (c .turn3 .ensures) p1 p1m1 p2m1 p2m2 in λ i. first i ∷ second i ∷ third i ∷ []
+returns c =
+    let at-turn = c .before .before in
+    let at-cut4 = at-turn .before in
+    let at-cut3 = at-cut4 .before in
+    let at-cut2 = at-cut3 .before in
+    let at-cut = at-cut2 .before in
+    let at-point2 = at-cut .before in
+    let at-point = at-point2 .before in
+    let keep = at-point .before .args .keep in
+    let p1 = at-point .point .ensures in
+    let p2 = at-point2 .point2 .ensures in
+    let p1m1 = at-cut .cut .ensures in
+    let p1m2 = at-cut2 .cut2 .ensures in
+    let p2m1 = at-cut3 .cut3 .ensures in
+    let p2m2 = at-cut4 .cut4 .ensures in
+    let first = row-is keep (at-turn .turn .ensures) p1 p2 p2m1 p2m2 in
+    let second = row-is keep (c .before .turn2 .ensures) p1 p1m1 p1m2 p2m2 in
+    let third = row-is (not keep) (c .turn3 .ensures) p1 p1m1 p2m1 p2m2 in
+    λ i. first i ∷ second i ∷ third i ∷ []
 
 pub two-plus-two-minus-spec : {M : Type 1} → statement M
-two-plus-two-minus-spec = tie.close (tie.spec point-requires point-requires-2 cut-requires cut-requires-2 cut-requires-3 cut-requires-4 turn-requires turn-requires-2 turn-requires-3 returns)
+two-plus-two-minus-spec =
+    tie.close
+    (tie.spec
+    point-requires
+    point-requires-2
+    cut-requires
+    cut-requires-2
+    cut-requires-3
+    cut-requires-4
+    turn-requires
+    turn-requires-2
+    turn-requires-3
+    returns)

@@ -9,16 +9,21 @@ corner-row-requires c κs = search needs
 
 write-row-requires : tie.Need-write-row-requires
 write-row-requires c κs =
-    let a = c .before .before .before in
-    (a .pre .0, (solid-known (a .args .n) (a .args .wound) (a .args .t) _ (c .before .corner-row .ensures) (a .pre .1 .0), a .pre .1 .1))
+    let at-row = c .before in
+    let at-start = at-row .before .before in
+    let a = at-start .args in
+    let p = at-start .pre in
+    (p .0, (solid-known (a .n) (a .wound) (a .t) _ (at-row .corner-row .ensures) (p .1 .0), p .1 .1))
 
 same-length : tie.Need-same-length
 same-length c = search needs
 
 returns : tie.Need-returns
 returns c =
-    let a = c .before .before .before .before .before .before in
-    solid-written (a .args .n) (a .args .wound) (a .args .t) _ (c .before .before .before .before .corner-row .ensures) _ _ _ (c .before .before .write-row .ensures)
+    let at-write = c .before .before in
+    let at-row = at-write .before .before in
+    let a = at-row .before .before .args in
+    solid-written (a .n) (a .wound) (a .t) _ (at-row .corner-row .ensures) _ _ _ (at-write .write-row .ensures)
 
 pub write-solid-spec : {M : Type 1} → statement M
 write-solid-spec = tie.close (tie.spec corner-row-requires write-row-requires same-length returns)

@@ -1,5 +1,5 @@
 -- Nothing without a plus; else the rows of the pattern. Assumes nothing.
-use Rattle.rows.proofs.StencilLaws.{none-for, in-order, known-for, room-for, written-for}
+use Rattle.rows.proofs.StencilLaws.{none-for, in-order, ready-for, written-for}
 use Rattle.rows.specs.inner.Picks.{sum}
 use native.Mathlib.Omega.{arith}
 use borrow.Author.Needs.{needs}
@@ -42,17 +42,15 @@ rows-for-requires c κs =
 write-requires : tie.Need-write-requires
 unfolding sum
 write-requires c κs =
-    let k = c .before .before in
-    let o = k .before .before in
-    let a = o .before .before .before .before .before .before .before in (
-      a .pre .0,
-      (
-        known-for (a .args .n) (a .args .wound) (a .args .t) (a .args .w) _ _ _ _ (o .order .ensures) (k .before .is-even .ensures) (k .agrees .ensures)
-            (c .before .rows-for .ensures) (a .pre .1 .0),
-        room-for (a .args .n) (a .args .wound) (a .args .t) (a .args .w) _ _ _ _ (o .order .ensures) (k .before .is-even .ensures) (k .agrees .ensures)
-            (c .before .rows-for .ensures) (a .args .rows .now) (a .args .at) (a .pre .1 .1 .1 .1),
-      ),
-    )
+    let at-rows = c .before in
+    let at-agrees = at-rows .before in
+    let at-even = at-agrees .before in
+    let at-order = at-even .before in
+    let at-start = at-order .before .before .before .before .before .before .before in
+    let a = at-start .args in
+    let p = at-start .pre in
+    ready-for (a .n) (a .wound) (a .t) (a .w) _ _ _ _ (at-order .order .ensures) (at-even .is-even .ensures)
+    (at-agrees .agrees .ensures) (at-rows .rows-for .ensures) (p .0) (p .1 .0) _ _ (p .1 .1 .1 .1)
 
 mul-result : tie.Need-mul-result
 mul-result c = omega (arith, c .before .before .before .before .before .before .before .before .before .row-count .ensures .1)
@@ -68,12 +66,16 @@ same-length c = search needs
 returns-2 : tie.Need-returns-2
 unfolding sum
 returns-2 c =
-    let r = c .before .before .before .before in
-    let o = r .before .before .before in
-    let t = o .before .before in
-    let a = t .before .before .before .before .before in
-    written-for (a .args .n) (a .args .wound) (a .args .t) (a .args .w) _ _ _ _ (o .order .ensures) (r .before .before .is-even .ensures)
-    (r .before .agrees .ensures) (r .rows-for .ensures) _ (t .row-count .ensures .0) _ _ _ (c .before .before .write .ensures)
+    let at-write = c .before .before in
+    let at-rows = at-write .before .before in
+    let at-agrees = at-rows .before in
+    let at-even = at-agrees .before in
+    let at-order = at-even .before in
+    let at-count = at-order .before .before in
+    let at-start = at-count .before .before .before .before .before in
+    let a = at-start .args in
+    written-for (a .n) (a .wound) (a .t) (a .w) _ _ _ _ (at-order .order .ensures) (at-even .is-even .ensures)
+    (at-agrees .agrees .ensures) (at-rows .rows-for .ensures) _ (at-count .row-count .ensures .0) _ _ _ (at-write .write .ensures)
 
 pub write-tetra-spec : {M : Type 1} → statement M
 write-tetra-spec =
