@@ -1,12 +1,18 @@
 // Signs of samples.
 ghost use mathlib.Core.Path.{_≡_};
-ghost use Rattle.moving.specs.Label.{labelOf, isPlus, opposed};
+ghost use Rattle.moving.specs.Label.{labelOf, isPlus, isMinus, opposed};
 ghost use Rattle.ground.specs.inner.Signs.{hasSign};
 
 pub fn is_plus(a: i16) -> bool
     ensures { λ r. ⌜ r ≡ isPlus (labelOf a) ⌝ }
 {
     0 < a
+}
+
+pub fn is_minus(a: i16) -> bool
+    ensures { λ r. ⌜ r ≡ isMinus (labelOf a) ⌝ }
+{
+    a < 0
 }
 
 // A sample is above zero, or below.

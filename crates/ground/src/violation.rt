@@ -5,6 +5,7 @@ ghost use Rattle.moving.specs.Violation.{rule1, limit, measured, violates};
 
 // "at most 63 on a long edge or 105 on a short one"
 const LONG_LIMIT: usize = 63;
+
 const SHORT_LIMIT: usize = 105;
 
 // The most that a cut may be from an end that it violates, on an edge in direction d.

@@ -16,7 +16,8 @@ use Rattle.lattice.specs.Edge.{byteAt}
 use Rattle.moving.specs.declared.Label.{Label}
 use Rattle.stencil.specs.Tetrahedron.{Tetrahedron, Vertex, v0, v1, v2, v3, Quarter, cornerNumber}
 use Rattle.stencil.specs.Row.{Row, row, swapped, mapRow}
-use Rattle.stencil.specs.Stencil.{Entry, between, rank, point, cut, Stencil, no-plus, plus-zero-only, +++-, ++--, ++-0, +---, +--0, +-00, stencilOf, rowsFor}
+use Rattle.stencil.specs.Stencil.{Entry, between, rank, point, cut, rowsFor}
+use Rattle.stencil.specs.Stencil.{Stencil, no-plus, plus-zero-only, +++-, ++--, ++-0, +---, +--0, +-00, stencilOf}
 use Rattle.stencil.specs.Id.{codeBetween, startOf, idOf}
 use Rattle.stencil.proofs.Sign.{signed}
 use Rattle.filling.specs.Mesh.{ids, table}
@@ -143,7 +144,8 @@ module _ (n : ℕ) (t : Tetra) where
     lines-ids +-00 = λ i. row-ids k p1 c12 p3 p4 i ++ []
 
   -- what the code writes for a tetrahedron is what its labels say
-  pub tetra-is : (wound : Bool) (l : Vertex → Label) → tetraIds n wound t (weights l) ≡ table (map (mapRow (idBy n t)) (map (signed wound) (rowsFor l)))
+  pub tetra-is : (wound : Bool) (l : Vertex → Label)
+      → tetraIds n wound t (weights l) ≡ table (map (mapRow (idBy n t)) (map (signed wound) (rowsFor l)))
   unfolding tetraIds
   tetra-is wound l =
       lines-ids (ordered (weights l)) (Bool·beq wound (isEven (weights l))) (ordered-apart l) (stencilOf (sum (weights l)))

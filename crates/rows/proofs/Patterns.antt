@@ -90,7 +90,8 @@ right a b c d s =
     & sameRows (map (signed s) (rowsFor (four a b c d))) (entryLines (four a b c d) s)
 
 ok : T (each theLabels (λ a. each theLabels (λ b. each theLabels (λ c. each theLabels (λ d. each theBools (right a b c d))))))
-unfolding _&_ right allApart apart sameRows sameRow sameEntry lines cut choose isPlus isMinus isZero patternOf stencilOf rowsOf rowsFor newcomer order evenFirst even signed weight sum picked chosen ordered inversion isEven
+unfolding _&_ right allApart apart sameRows sameRow sameEntry lines cut choose isPlus isMinus isZero patternOf stencilOf rowsOf rowsFor
+    newcomer order evenFirst even signed weight sum picked chosen ordered inversion isEven
 ok = tt
 
 one : (a b c d : Label) (s : Bool) → T (right a b c d s)
@@ -129,7 +130,14 @@ apart-use o t =
     let v = and-r (apart (o .first) (o .third)) _ u in
     let w = and-r (apart (o .first) (o .fourth)) _ v in
     let x = and-r (apart (o .second) (o .third)) _ w in
-    record { 1-2 = and-l _ _ t; 1-3 = and-l _ _ u; 1-4 = and-l _ _ v; 2-3 = and-l _ _ w; 2-4 = and-l _ _ x; 3-4 = and-r (apart (o .second) (o .fourth)) _ x }
+    record {
+      1-2 = and-l _ _ t;
+      1-3 = and-l _ _ u;
+      1-4 = and-l _ _ v;
+      2-3 = and-l _ _ w;
+      2-4 = and-l _ _ x;
+      3-4 = and-r (apart (o .second) (o .fourth)) _ x;
+    }
 
 pub ordered-apart : (l : Vertex → Label) → Apart (ordered (weights l))
 unfolding right
