@@ -1,39 +1,48 @@
 -- Laws of runs of cubes without a plus. Assumes nothing.
 use Prim.Native.Nat.{ℕ, _+_, _-_, _<_, _≤_}
 use native.Mathlib.Omega.{arith}
-use mathlib.Core.Path.{_≡_, ap, _∙_}
+use mathlib.Core.Path.{_≡_}
 use mathlib.Core.Bool.{true, false}
 use mathlib.Core.List.{List}
 use lib.IntN.{ℤ, pos}
 use lib.ListN.{getD}
+use Rattle.moving.specs.declared.Label.{Label}
+use Rattle.moving.specs.Label.{labels}
 use Rattle.ground.specs.inner.Signs.{hasSign}
 use Rattle.emit.specs.declared.Cube.{Cube}
 use Rattle.emit.specs.inner.Cubes.{Light, plusAt, plusCount}
 use Rattle.emit.specs.inner.Passes.{movedCube, KnownRun}
 
-pub light-line : (samples : List ℤ) (from count : ℕ) → ((p : ℕ) → from ≤ p → p < from + count → hasSign true (getD samples p (pos 0)) ≡ false)
-    → Light samples from count
-unfolding hasSign plusAt
+-- a line of samples none of which is above zero
+pub light-line : (samples : List ℤ) (from count : ℕ)
+    → ((p : ℕ) → from ≤ p → p < from + count → hasSign true (getD samples p (pos 0)) ≡ false) → Light (labels samples) from count
+unfolding hasSign plusAt labels
 light-line samples from count h x l = simp (h (from + x) (omega arith) (omega (arith, l)))
 
--- six lines of points without a sample above zero
-module _ (samples : List ℤ) (step : Cube) (corner centre count : ℕ) (a : Light samples (centre + step .low) count)
-    (b : Light samples (centre + step .high) count) (c : Light samples (corner + step .mm) count) (d : Light samples (corner + step .pm) count)
-    (e : Light samples (corner + step .pp) count) (f : Light samples (corner + step .mp) count) where
-  none-at : (p q : ℕ) → p ≡ q → plusAt samples p ≡ 0 → plusAt samples q ≡ 0
+-- the six lines of points of cubes side by side
+module _ (label : ℕ → Label) (step : Cube) (corner centre count : ℕ) where
+  pub record LightRun : Type 0 where
+    pub low-light : Light label (centre + step .low) count
+    pub high-light : Light label (centre + step .high) count
+    pub mm-light : Light label (corner + step .mm) count
+    pub pm-light : Light label (corner + step .pm) count
+    pub pp-light : Light label (corner + step .pp) count
+    pub mp-light : Light label (corner + step .mp) count
+
+  none-at : (p q : ℕ) → p ≡ q → plusAt label p ≡ 0 → plusAt label q ≡ 0
   none-at p q same h = rw same at h
 
-  pub bare-run : (x : ℕ) → x < count → plusCount samples (movedCube step (corner + x) (centre + x)) ≡ 0
+  pub bare-run : LightRun → (x : ℕ) → x < count → plusCount label (movedCube step (corner + x) (centre + x)) ≡ 0
   unfolding plusCount movedCube
-  bare-run x h =
+  bare-run r x h =
       omega (
         arith,
-        none-at (centre + step .low + x) (centre + x + step .low) (omega arith) (a x h),
-        none-at (centre + step .high + x) (centre + x + step .high) (omega arith) (b x h),
-        none-at (corner + step .mm + x) (corner + x + step .mm) (omega arith) (c x h),
-        none-at (corner + step .pm + x) (corner + x + step .pm) (omega arith) (d x h),
-        none-at (corner + step .pp + x) (corner + x + step .pp) (omega arith) (e x h),
-        none-at (corner + step .mp + x) (corner + x + step .mp) (omega arith) (f x h),
+        none-at (centre + step .low + x) (centre + x + step .low) (omega arith) (r .low-light x h),
+        none-at (centre + step .high + x) (centre + x + step .high) (omega arith) (r .high-light x h),
+        none-at (corner + step .mm + x) (corner + x + step .mm) (omega arith) (r .mm-light x h),
+        none-at (corner + step .pm + x) (corner + x + step .pm) (omega arith) (r .pm-light x h),
+        none-at (corner + step .pp + x) (corner + x + step .pp) (omega arith) (r .pp-light x h),
+        none-at (corner + step .mp + x) (corner + x + step .mp) (omega arith) (r .mp-light x h),
       )
 
 -- the six lines end among n points
@@ -45,9 +54,10 @@ pub record Ends (n : ℕ) (step : Cube) (corner centre count : ℕ) : Type 0 whe
   pub pp-ends : corner + step .pp + count ≤ n
   pub mp-ends : corner + step .mp + count ≤ n
 
-pub run-ends : (n : ℕ) (step : Cube) (corner centre count : ℕ) → KnownRun n step corner centre count → (count ≡ 0 → ⊥) → Ends n step corner centre count
+pub run-ends : {n : ℕ} {step : Cube} {corner centre count : ℕ} → KnownRun n step corner centre count → (count ≡ 0 → ⊥)
+    → Ends n step corner centre count
 unfolding movedCube
-run-ends n step corner centre count k some =
+run-ends {count = count} k some =
     let last = k .known (count - 1) (omega (arith, some)) in
     record {
       low-ends = omega (arith, some, last .low-in);

@@ -1,32 +1,31 @@
 -- Laws of the tetrahedra between a cube and the next one along an axis. Assumes nothing.
 use Prim.Native.Nat.{ℕ, zero, suc, _+_, _*_, _≤_, _<_}
 use native.Mathlib.Omega.{arith}
-use mathlib.Core.Path.{_≡_, refl, sym, ap, subst, _∙_}
+use mathlib.Core.Path.{_≡_, refl, sym, ap, _∙_}
+use mathlib.Core.Logic.{inl, inr}
 use mathlib.Core.Bool.{Bool, true, false}
-use mathlib.Core.List.{List, [], _∷_, _++_}
-use borrow.Author.Tests.{le-leb, eq-eqb, eqb-true}
-use lib.Dec.{eqb}
-use lib.Seq.{sets}
-use lib.IntN.{ℤ, pos}
+use mathlib.Core.List.{List, [], _++_}
+use borrow.Author.Tests.{le-leb, eqb-true}
 use lib.ListN.{length, getD, length-append}
-use Rattle.basics.specs.Choice.{if_then_else_}
 use Rattle.basics.specs.Lists.{gather, from, below}
 use Rattle.moving.specs.declared.Label.{Label}
 use Rattle.moving.specs.declared.Label.the-variants.{Minus, Zero, Plus}
-use Rattle.moving.specs.Label.{labelOf, isPlus}
-use Rattle.moving.specs.Moving.{labelAfter}
+use Rattle.moving.specs.Label.{isPlus}
+use Rattle.moving.specs.Reading.{labelAfter}
+use Rattle.moving.proofs.Bytes.{same-or, label-still, label-moved}
 use Rattle.stencil.specs.Stencil.{stencilOf}
 use Rattle.stencil.specs.Tetrahedron.{q3}
 use Rattle.stencil.specs.inner.Sign.{winds}
-use Rattle.emit.specs.declared.Tetra.{Tetra}
-use Rattle.emit.specs.declared.Weights.{Weights}
+use Rattle.rows.specs.declared.Tetra.{Tetra}
+use Rattle.rows.specs.declared.Weights.{Weights}
+use Rattle.rows.specs.inner.Corners.{most, Tetrahedral, quarterAt}
+use Rattle.rows.specs.inner.Picks.{weight, sum}
+use Rattle.rows.specs.inner.Stencils.{KnownTetra, Small, rowCount, tetraIds, tetraMost, solid}
+use Rattle.rows.proofs.StencilLaws.{tetra-long, tetra-most, empty, solid-long}
 use Rattle.emit.specs.declared.Cube.{Cube}
 use Rattle.emit.specs.declared.CubeWeights.{CubeWeights}
-use Rattle.emit.specs.inner.Corners.{most, quarterAt}
-use Rattle.emit.specs.inner.Picks.{weight, sum}
-use Rattle.emit.specs.inner.Stencils.{KnownTetra, Small, Room, rowCount, tetraIds, solid}
-use Rattle.emit.specs.inner.Cubes.{quarterOf, quarterWeights, KnownCube, SmallCube, counted, total, plusAt, plusCount, unmoved, solidCube, cubeCount, weightAt, cubeWeights, edgeIds, cubeIds}
-use Rattle.emit.proofs.StencilLaws.{tetra-long, tetra-most, empty, solid-long}
+use Rattle.emit.specs.inner.Cubes.{quarterOf, quarterWeights, KnownCube, SmallCube, counted, total, plusAt, plusCount, unmoved}
+use Rattle.emit.specs.inner.Cubes.{solidCube, cubeCount, cubeWeights, edgeIds, cubeIds, cubeMost, Room}
 use Rattle.emit.proofs.Written.{bounded}
 
 -- the last edge, for any number that is none of the others
@@ -84,13 +83,17 @@ known-within e k =
 
 quarter-known : (n : ℕ) (c : Cube) → KnownCube n c → (e : ℕ) → KnownTetra n (quarterOf c e)
 quarter-known n c k zero =
-    record { kind = record { axis-in = k .axis-in; edge-in = omega arith }; a-in = k .mm-in; b-in = k .pm-in; c-in = k .low-in; d-in = k .high-in }
+    let kind : Tetrahedral (quarterOf c 0) = record { axis-in = k .axis-in; edge-in = omega arith } in
+    record { kind = kind; a-in = k .mm-in; b-in = k .pm-in; c-in = k .low-in; d-in = k .high-in }
 quarter-known n c k (suc zero) =
-    record { kind = record { axis-in = k .axis-in; edge-in = omega arith }; a-in = k .pm-in; b-in = k .pp-in; c-in = k .low-in; d-in = k .high-in }
+    let kind : Tetrahedral (quarterOf c 1) = record { axis-in = k .axis-in; edge-in = omega arith } in
+    record { kind = kind; a-in = k .pm-in; b-in = k .pp-in; c-in = k .low-in; d-in = k .high-in }
 quarter-known n c k (suc (suc zero)) =
-    record { kind = record { axis-in = k .axis-in; edge-in = omega arith }; a-in = k .mp-in; b-in = k .pp-in; c-in = k .low-in; d-in = k .high-in }
+    let kind : Tetrahedral (quarterOf c 2) = record { axis-in = k .axis-in; edge-in = omega arith } in
+    record { kind = kind; a-in = k .mp-in; b-in = k .pp-in; c-in = k .low-in; d-in = k .high-in }
 quarter-known n c k (suc (suc (suc e))) =
-    record { kind = record { axis-in = k .axis-in; edge-in = omega arith }; a-in = k .mm-in; b-in = k .mp-in; c-in = k .low-in; d-in = k .high-in }
+    let kind : Tetrahedral (quarterOf c 3) = record { axis-in = k .axis-in; edge-in = omega arith } in
+    record { kind = kind; a-in = k .mm-in; b-in = k .mp-in; c-in = k .low-in; d-in = k .high-in }
 
 quarter-small : (w : CubeWeights) → SmallCube w → (e : ℕ) → Small (quarterWeights w e)
 quarter-small w k zero = record { a-small = k .mm-small; b-small = k .pm-small; c-small = k .low-small; d-small = k .high-small }
@@ -99,8 +102,8 @@ quarter-small w k (suc (suc zero)) = record { a-small = k .mp-small; b-small = k
 quarter-small w k (suc (suc (suc e))) = record { a-small = k .mm-small; b-small = k .mp-small; c-small = k .low-small; d-small = k .high-small }
 
 -- one edge of the turn, as the code has it
-module _ (n : ℕ) (c : Cube) (w : CubeWeights) (e : ℕ) (wound : Bool) (t : Tetra) (v : Weights) (p : wound ≡ winds (quarterAt e)) (q : t ≡ quarterOf c e)
-    (r : v ≡ quarterWeights w e) where
+module _ (n : ℕ) (c : Cube) (w : CubeWeights) (e : ℕ) (wound : Bool) (t : Tetra) (v : Weights) (p : wound ≡ winds (quarterAt e))
+    (q : t ≡ quarterOf c e) (r : v ≡ quarterWeights w e) where
   pub edge-is : tetraIds n wound t v ≡ edgeIds n c w e
   unfolding edgeIds
   edge-is = λ i. tetraIds n (p i) (q i) (r i)
@@ -111,22 +114,24 @@ module _ (n : ℕ) (c : Cube) (w : CubeWeights) (e : ℕ) (wound : Bool) (t : Te
   pub edge-small : SmallCube w → Small v
   edge-small k = rw r (quarter-small w k e)
 
-pub edge-most : (n : ℕ) (c : Cube) (w : CubeWeights) (e : ℕ) → length (edgeIds n c w e) ≤ 12
+pub edge-most : (n : ℕ) (c : Cube) (w : CubeWeights) (e : ℕ) → length (edgeIds n c w e) ≤ tetraMost
 unfolding edgeIds
 edge-most n c w e = tetra-most n (winds (quarterAt e)) (quarterOf c e) (quarterWeights w e)
 
-pub cube-as : (n : ℕ) (samples : List ℤ) (state : List ℕ) (c : Cube) (w : CubeWeights) → w ≡ cubeWeights samples state c
-    → gather (edgeIds n c w) (below 4) ≡ cubeIds n samples state c
-unfolding cubeIds
-cube-as n samples state c w e = ap (λ (x : CubeWeights). gather (edgeIds n c x) (below 4)) e
+module _ (n : ℕ) (label : ℕ → Label) (c : Cube) where
+  pub cube-as : (w : CubeWeights) → w ≡ cubeWeights label c → gather (edgeIds n c w) (below 4) ≡ cubeIds n label c
+  unfolding cubeIds
+  cube-as w e = ap (λ (x : CubeWeights). gather (edgeIds n c x) (below 4)) e
 
-pub cube-room : (n : ℕ) (samples : List ℤ) (state : List ℕ) (c : Cube) (w : CubeWeights) (l : List ℕ) (i : ℕ) → w ≡ cubeWeights samples state c
-    → Room l i (length (cubeIds n samples state c)) → Room l i (length (gather (edgeIds n c w) (below 4)))
-cube-room n samples state c w l i e r = rw (cube-as n samples state c w e) r
+  pub cube-room : (w : CubeWeights) (l : List ℕ) (i : ℕ) → w ≡ cubeWeights label c → Room l i (length (cubeIds n label c))
+      → Room l i (length (gather (edgeIds n c w) (below 4)))
+  cube-room w l i e r = rw (cube-as w e) r
 
-pub cube-most : (n : ℕ) (samples : List ℤ) (state : List ℕ) (c : Cube) → length (cubeIds n samples state c) ≤ 48
-unfolding cubeIds
-cube-most n samples state c = bounded (edgeIds n c (cubeWeights samples state c)) 12 4 (λ j h. edge-most n c (cubeWeights samples state c) j) 4 (omega arith)
+  pub cube-most : length (cubeIds n label c) ≤ cubeMost
+  unfolding cubeIds
+  cube-most =
+      let w = cubeWeights label c in
+      bounded (edgeIds n c w) tetraMost 4 (λ j h. edge-most n c w j) 4 (omega arith)
 
 -- the rows of a cube, only counted: four numbers each
 pub cube-counted : (n : ℕ) (c : Cube) (w : CubeWeights) → 4 * cubeCount w ≡ length (gather (edgeIds n c w) (below 4))
@@ -176,13 +181,12 @@ module _ (n : ℕ) (c : Cube) where
   unfolding cubeCount rowCount stencilOf sum
   solid-cube-long = sym (cube-counted n c solidCube)
 
--- the weight of a point from its sample and its state byte
-plain : (l : Label) (b : Bool) → counted (isPlus l) ≡ 0 → weight (if b then l else Zero) ≤ 1
+-- the weight of a label that is not plus, and of one that is
+plain : (l : Label) → counted (isPlus l) ≡ 0 → weight l ≤ 1
 unfolding weight isPlus
-plain Minus true e = omega arith
-plain Zero true e = omega arith
-plain Plus true e = absurd (omega arith)
-plain l false e = omega arith
+plain Minus e = omega arith
+plain Zero e = omega arith
+plain Plus e = absurd (omega arith)
 
 heavy : (l : Label) → counted (isPlus l) ≡ 1 → weight l ≡ 5
 unfolding weight isPlus
@@ -198,21 +202,32 @@ no-row : (m : ℕ) → m ≤ 4 → rowCount (stencilOf m) ≡ 0
 unfolding stencilOf rowCount
 no-row m h = simp (le-leb _ _ h)
 
--- the same number at all six points
-record Six (f : ℕ → ℕ) (k : ℕ) (c : Cube) : Type 0 where
-  low-is : f (c .low) ≡ k
-  high-is : f (c .high) ≡ k
-  mm-is : f (c .mm) ≡ k
-  pm-is : f (c .pm) ≡ k
-  pp-is : f (c .pp) ≡ k
-  mp-is : f (c .mp) ≡ k
+-- the same holds of all six points
+record Six (P : ℕ → Type 0) (c : Cube) : Type 0 where
+  low-is : P (c .low)
+  high-is : P (c .high)
+  mm-is : P (c .mm)
+  pm-is : P (c .pm)
+  pp-is : P (c .pp)
+  mp-is : P (c .mp)
+
+each-of : {P Q : ℕ → Type 0} {c : Cube} → ((p : ℕ) → P p → Q p) → Six P c → Six Q c
+each-of {c = c} f s =
+    record {
+      low-is = f (c .low) (s .low-is);
+      high-is = f (c .high) (s .high-is);
+      mm-is = f (c .mm) (s .mm-is);
+      pm-is = f (c .pm) (s .pm-is);
+      pp-is = f (c .pp) (s .pp-is);
+      mp-is = f (c .mp) (s .mp-is);
+    }
 
 module _ (f : ℕ → ℕ) (c : Cube) where
-  all-zero : total f c ≡ 0 → Six f 0 c
+  all-zero : total f c ≡ 0 → Six (λ p. f p ≡ 0) c
   all-zero e =
       record { low-is = omega arith; high-is = omega arith; mm-is = omega arith; pm-is = omega arith; pp-is = omega arith; mp-is = omega arith }
 
-  all-one : ((p : ℕ) → f p ≤ 1) → total f c ≡ 6 → Six f 1 c
+  all-one : ((p : ℕ) → f p ≤ 1) → total f c ≡ 6 → Six (λ p. f p ≡ 1) c
   all-one h e =
       let a = h (c .low) in
       let b = h (c .high) in
@@ -222,63 +237,68 @@ module _ (f : ℕ → ℕ) (c : Cube) where
       let j = h (c .mp) in
       record { low-is = omega arith; high-is = omega arith; mm-is = omega arith; pm-is = omega arith; pp-is = omega arith; mp-is = omega arith }
 
-module _ (samples : List ℤ) (state : List ℕ) where
-  plain-at : (p : ℕ) → plusAt samples p ≡ 0 → weightAt samples state p ≤ 1
-  unfolding weightAt labelAfter plusAt
-  plain-at p e = plain (labelOf (getD samples p (pos 0))) (eqb (getD state p 0) 0) e
-
-  heavy-at : (p : ℕ) → plusAt samples p ≡ 1 → getD state p 0 ≡ 0 → weightAt samples state p ≡ 5
-  unfolding weightAt labelAfter plusAt
-  heavy-at p e z = rw (eq-eqb (getD state p 0) 0 z) (heavy (labelOf (getD samples p (pos 0))) e)
-
-  plus-most : (p : ℕ) → plusAt samples p ≤ 1
-  unfolding plusAt
-  plus-most p = at-most-one (isPlus (labelOf (getD samples p (pos 0))))
-
-  -- six plus points that have not moved
-  pub solid-is : (c : Cube) → plusCount samples c ≡ 6 → unmoved state c ≡ true → cubeWeights samples state c ≡ solidCube
-  unfolding plusCount unmoved cubeWeights
-  solid-is c e u =
-      let one = all-one (plusAt samples) c plus-most e in
-      let still = all-zero (λ p. getD state p 0) c (eqb-true (total (λ p. getD state p 0) c) 0 u) in
+module _ (label : ℕ → Label) (c : Cube) where
+  -- six plus points
+  pub solid-is : plusCount label c ≡ 6 → cubeWeights label c ≡ solidCube
+  unfolding plusCount plusAt cubeWeights
+  solid-is e =
       λ i. record {
-        low = heavy-at (c .low) (one .low-is) (still .low-is) i;
-        high = heavy-at (c .high) (one .high-is) (still .high-is) i;
-        mm = heavy-at (c .mm) (one .mm-is) (still .mm-is) i;
-        pm = heavy-at (c .pm) (one .pm-is) (still .pm-is) i;
-        pp = heavy-at (c .pp) (one .pp-is) (still .pp-is) i;
-        mp = heavy-at (c .mp) (one .mp-is) (still .mp-is) i;
+        low = five .low-is i;
+        high = five .high-is i;
+        mm = five .mm-is i;
+        pm = five .pm-is i;
+        pp = five .pp-is i;
+        mp = five .mp-is i;
       }
+    where
+      five : Six (λ p. weight (label p) ≡ 5) c
+      five = each-of (λ p. heavy (label p)) (all-one (plusAt label) c (λ p. at-most-one (isPlus (label p))) e)
 
--- a cube without a plus gives nothing
-module _ (n : ℕ) (samples : List ℤ) (state : List ℕ) (c : Cube) (none : plusCount samples c ≡ 0) where
-  bare : Six (plusAt samples) 0 c
-  unfolding plusCount
-  bare = all-zero (plusAt samples) c none
+  -- a cube without a plus gives nothing
+  module _ (n : ℕ) (none : plusCount label c ≡ 0) where
+    light : Six (λ p. weight (label p) ≤ 1) c
+    unfolding plusCount plusAt
+    light = each-of (λ p. plain (label p)) (all-zero (plusAt label) c none)
 
-  light : (p : ℕ) → plusAt samples p ≡ 0 → weightAt samples state p ≤ 1
-  light = plain-at samples state
+    bare-sum : (e : ℕ) → sum (quarterWeights (cubeWeights label c) e) ≤ 4
+    unfolding sum cubeWeights
+    bare-sum zero = let l = light in omega arith
+    bare-sum (suc zero) = let l = light in omega arith
+    bare-sum (suc (suc zero)) = let l = light in omega arith
+    bare-sum (suc (suc (suc e))) = let l = light in omega arith
 
-  bare-sum : (e : ℕ) → sum (quarterWeights (cubeWeights samples state c) e) ≤ 4
-  unfolding sum cubeWeights
-  bare-sum zero = omega (arith, light (c .mm) (bare .mm-is), light (c .pm) (bare .pm-is), light (c .low) (bare .low-is), light (c .high) (bare .high-is))
-  bare-sum (suc zero) =
-      omega (arith, light (c .pm) (bare .pm-is), light (c .pp) (bare .pp-is), light (c .low) (bare .low-is), light (c .high) (bare .high-is))
-  bare-sum (suc (suc zero)) =
-      omega (arith, light (c .mp) (bare .mp-is), light (c .pp) (bare .pp-is), light (c .low) (bare .low-is), light (c .high) (bare .high-is))
-  bare-sum (suc (suc (suc e))) =
-      omega (arith, light (c .mm) (bare .mm-is), light (c .mp) (bare .mp-is), light (c .low) (bare .low-is), light (c .high) (bare .high-is))
+    bare-edge : (e : ℕ) → edgeIds n c (cubeWeights label c) e ≡ []
+    unfolding edgeIds
+    bare-edge e =
+        let long = tetra-long n (winds (quarterAt e)) (quarterOf c e) (quarterWeights (cubeWeights label c) e) in
+        empty _ (long ∙ ap (λ (m : ℕ). 4 * m) (no-row _ (bare-sum e)))
 
-  bare-edge : (e : ℕ) → edgeIds n c (cubeWeights samples state c) e ≡ []
-  unfolding edgeIds
-  bare-edge e =
-      empty _ (tetra-long n (winds (quarterAt e)) (quarterOf c e) (quarterWeights (cubeWeights samples state c) e)
-      ∙ ap (λ (m : ℕ). 4 * m) (no-row _ (bare-sum e)))
+    pub bare-cube : cubeIds n label c ≡ []
+    unfolding cubeIds gather from
+    bare-cube = rw (bare-edge 0, bare-edge 1, bare-edge 2, bare-edge 3) refl
 
-  pub bare-cube : cubeIds n samples state c ≡ []
-  unfolding cubeIds gather from
-  bare-cube = rw (bare-edge 0, bare-edge 1, bare-edge 2, bare-edge 3) refl
+-- moving makes no label plus, and leaves those of points that have not moved
+module _ (label : ℕ → Label) (state : List ℕ) where
+  not-plus : (p : ℕ) → plusAt label p ≡ 0 → plusAt (labelAfter label state) p ≡ 0
+  unfolding plusAt isPlus
+  not-plus p e =
+      elim (same-or (getD state p 0) 0) [
+        | inl z ↦ rw (label-still label state p z) e
+        | inr n ↦ rw (label-moved label state p n) refl
+      ]
 
-  -- so nothing is written, and the index stays
-  pub bare-written : (l : List ℕ) (i : ℕ) → (i ≡ i + length (cubeIds n samples state c)) × (l ≡ sets l i (cubeIds n samples state c))
-  bare-written l i = rw bare-cube (omega arith, refl)
+  still-same : (p : ℕ) → getD state p 0 ≡ 0 → plusAt (labelAfter label state) p ≡ plusAt label p
+  unfolding plusAt
+  still-same p z = rw (label-still label state p z) refl
+
+  module _ (c : Cube) where
+    pub bare-after : plusCount label c ≡ 0 → plusCount (labelAfter label state) c ≡ 0
+    unfolding plusCount
+    bare-after e = let n = each-of not-plus (all-zero (plusAt label) c e) in omega arith
+
+    pub solid-after : plusCount label c ≡ 6 → unmoved state c ≡ true → plusCount (labelAfter label state) c ≡ 6
+    unfolding plusCount unmoved
+    solid-after e u =
+        let unmoved-all = all-zero (λ p. getD state p 0) c (eqb-true (total (λ p. getD state p 0) c) 0 u) in
+        let s = each-of still-same unmoved-all in
+        omega arith

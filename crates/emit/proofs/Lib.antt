@@ -1,13 +1,8 @@
-pub mod CutTable
-pub mod CornerLaws
 pub mod Written
-pub mod StencilLaws
 pub mod WeightLaws
 pub mod CubeLaws
 pub mod BareLaws
 pub mod PassLaws
 pub mod Numbers
-pub mod Patterns
-pub mod Ids
 pub mod Table
 pub mod Oriented

@@ -11,7 +11,7 @@ use Rattle.lattice.specs.declared.Sizes.{Sizes}
 use Rattle.lattice.specs.declared.Kind.{Kind}
 use Rattle.lattice.specs.declared.Kind.the-variants.{Corner, Centre}
 use Rattle.lattice.specs.Axis.{Axis, along-x, along-y, along-z, xyz}
-use Rattle.lattice.specs.Counts.{Sized, size, grid, corners, points}
+use Rattle.lattice.specs.Counts.{Sized, largest, size, grid, corners, points}
 use Rattle.lattice.specs.Point.{linear, number}
 use Rattle.lattice.proofs.Axes.{theAxes}
 use Rattle.lattice.proofs.Bounds.{points-small}
@@ -20,7 +20,7 @@ use Rattle.stencil.specs.Tetrahedron.{Tetrahedron, Vertex, v0, v1, v2, v3, Quar
 use Rattle.stencil.proofs.Corners.{theVertices, theQuarters}
 use Rattle.stencil.proofs.Valid.{Valid, corner-inside}
 use Rattle.emit.specs.declared.Cube.{Cube}
-use Rattle.emit.specs.inner.Corners.{cornerOf}
+use Rattle.rows.specs.inner.Corners.{cornerOf}
 use Rattle.emit.specs.inner.Cubes.{KnownCube, quarterOf}
 use Rattle.emit.specs.inner.Passes.{movedCube, firstCorner, firstCentre, KnownRun, stepBy, passOf, InPass}
 
@@ -262,7 +262,7 @@ pass-in s a h =
     is : (passOf s (points s) a .sizes ≡ s) × (passOf s (points s) a .n ≡ points s)
     is = sizes-are s (points s) a
 
-    few : (passOf s (points s) a .mx ≤ 64) × (passOf s (points s) a .my ≤ 64) × (passOf s (points s) a .mz ≤ 64)
+    few : (passOf s (points s) a .mx ≤ largest) × (passOf s (points s) a .my ≤ largest) × (passOf s (points s) a .mz ≤ largest)
     few = omega (arith, counts-are s (points s) a)
 
     run : (z y : ℕ) → z < passOf s (points s) a .mz → y < passOf s (points s) a .my

@@ -6,21 +6,23 @@ use mathlib.Core.Path.{_≡_, refl, sym, ap, _∙_}
 use mathlib.Core.List.{List, []}
 use lib.IntN.{ℤ}
 use lib.ListN.{length}
-use lib.Seq.{sets}
 use Rattle.basics.specs.Lists.{gather, from, below}
 use Rattle.lattice.specs.declared.Sizes.{Sizes}
 use Rattle.lattice.specs.Axis.{Axis, along-x, along-y, along-z}
-use Rattle.lattice.specs.Counts.{Sized, corners, points}
+use Rattle.lattice.specs.Counts.{Sized, largest, corners, points}
 use Rattle.lattice.specs.Point.{linear}
+use Rattle.moving.specs.declared.Label.{Label}
+use Rattle.rows.specs.inner.Corners.{most, axisAt}
+use Rattle.rows.specs.inner.Stencils.{rowsMost, Wrote}
+use Rattle.rows.proofs.StencilLaws.{empty}
 use Rattle.emit.specs.declared.Cube.{Cube}
 use Rattle.emit.specs.declared.Pass.{Pass}
-use Rattle.emit.specs.inner.Corners.{most, axisAt}
-use Rattle.emit.specs.inner.Stencils.{Room, rowsMost}
-use Rattle.emit.specs.inner.Cubes.{KnownCube, plusCount, cubeIds}
-use Rattle.emit.specs.inner.Passes.{movedCube, KnownRun, placedIds, runIds, InPass, firstCorner, firstCentre, lineIds, layerIds, passIds, lineMost, layerMost, passMost, Tables, stepBy, passOf, blockIds}
+use Rattle.emit.specs.inner.Cubes.{KnownCube, plusCount, cubeIds, cubeMost, Room}
+use Rattle.emit.specs.inner.Passes.{movedCube, KnownRun, InPass, Tables, firstCorner, firstCentre, stepBy, passOf}
+use Rattle.emit.specs.inner.Passes.{placedIds, runIds, lineIds, layerIds, passIds, blockIds}
+use Rattle.emit.specs.inner.Passes.{lineMost, layerMost, passMost, strideMost}
 use Rattle.emit.proofs.CubeLaws.{known-within, cube-most, bare-cube}
-use Rattle.emit.proofs.StencilLaws.{empty}
-use Rattle.emit.proofs.Written.{bounded, Written, index-most, room-left}
+use Rattle.emit.proofs.Written.{bounded, Written, none-written, more-written, index-most, room-left, all-written, same-ids}
 use Rattle.emit.proofs.Numbers.{pass-in, sizes-are}
 
 -- the corner and the centre that six points are counted from are not beyond them
@@ -28,9 +30,9 @@ pub from-known : (n : ℕ) (step : Cube) (corner centre : ℕ) → KnownCube n (
 unfolding movedCube
 from-known n step corner centre k = (omega (arith, k .mm-in), omega (arith, k .low-in))
 
-module _ (n : ℕ) (step : Cube) (corner centre count : ℕ) (k : KnownRun n step corner centre count) (x : ℕ) (h : x < count) where
-  pub run-known : (c : Cube) → c ≡ movedCube step (corner + x) (centre + x) → KnownCube n c
-  run-known c e = rw e (k .known x h)
+module _ {n : ℕ} {step : Cube} {corner centre count : ℕ} (k : KnownRun n step corner centre count) {x : ℕ} (h : x < count) where
+  pub run-known : {c : Cube} → c ≡ movedCube step (corner + x) (centre + x) → KnownCube n c
+  run-known e = rw e (k .known x h)
 
   pub run-within : n ≤ most → KnownCube most (movedCube step (corner + x) (centre + x))
   run-within l = known-within l (k .known x h)
@@ -38,56 +40,56 @@ module _ (n : ℕ) (step : Cube) (corner centre count : ℕ) (k : KnownRun n ste
   pub run-from : (corner + x < n) × (centre + x < n)
   run-from = from-known n step (corner + x) (centre + x) (k .known x h)
 
-pub run-as : {m n : ℕ} (step : Cube) (corner centre count : ℕ) → m ≡ n → KnownRun n step corner centre count → KnownRun m step corner centre count
-run-as step corner centre count e k = rw e k
+pub run-as : {m n : ℕ} {step : Cube} {corner centre count : ℕ} → m ≡ n → KnownRun n step corner centre count
+    → KnownRun m step corner centre count
+run-as e k = rw e k
 
-module _ (n : ℕ) (samples : List ℤ) (state : List ℕ) (step : Cube) (corner centre : ℕ) where
-  pub placed-is : (x : ℕ) (c : Cube) → c ≡ movedCube step (corner + x) (centre + x) → cubeIds n samples state c ≡ placedIds n samples state step corner centre x
+module _ (n : ℕ) (label : ℕ → Label) (step : Cube) (corner centre : ℕ) where
+  pub placed-is : (x : ℕ) (c : Cube) → c ≡ movedCube step (corner + x) (centre + x)
+      → cubeIds n label c ≡ placedIds n label step corner centre x
   unfolding placedIds
-  placed-is x c e = ap (cubeIds n samples state) e
+  placed-is x c e = ap (cubeIds n label) e
 
-  pub placed-most : (x : ℕ) → length (placedIds n samples state step corner centre x) ≤ 48
+  pub placed-most : (x : ℕ) → length (placedIds n label step corner centre x) ≤ cubeMost
   unfolding placedIds
-  placed-most x = cube-most n samples state (movedCube step (corner + x) (centre + x))
+  placed-most x = cube-most n label (movedCube step (corner + x) (centre + x))
 
-  pub run-is : (count : ℕ) → gather (placedIds n samples state step corner centre) (below count) ≡ runIds n samples state step corner centre count
+  pub run-is : (count : ℕ) → gather (placedIds n label step corner centre) (below count) ≡ runIds n label step corner centre count
   unfolding runIds
   run-is count = refl
 
   -- cubes without a plus, side by side, give nothing
-  pub bare-run-written : (count : ℕ) → ((x : ℕ) → x < count → plusCount samples (movedCube step (corner + x) (centre + x)) ≡ 0)
-      → (l : List ℕ) (i : ℕ) → (i ≡ i + length (runIds n samples state step corner centre count)) × (l ≡ sets l i (runIds n samples state step corner centre count))
+  pub bare-run-ids : (count : ℕ) → ((x : ℕ) → x < count → plusCount label (movedCube step (corner + x) (centre + x)) ≡ 0)
+      → runIds n label step corner centre count ≡ []
   unfolding runIds placedIds
-  bare-run-written count b l i = rw nothing (omega arith, refl)
+  bare-run-ids count b =
+      empty _ (omega (arith, bounded (placedIds n label step corner centre) 0 count none-placed count (omega arith)))
     where
-      none-placed : (x : ℕ) → x < count → length (placedIds n samples state step corner centre x) ≤ 0
-      none-placed x h = rw (bare-cube n samples state (movedCube step (corner + x) (centre + x)) (b x h)) (omega arith)
+      none-placed : (x : ℕ) → x < count → length (placedIds n label step corner centre x) ≤ 0
+      none-placed x h = rw (bare-cube label (movedCube step (corner + x) (centre + x)) n (b x h)) (omega arith)
 
-      nothing : runIds n samples state step corner centre count ≡ []
-      nothing = empty _ (omega (arith, bounded (placedIds n samples state step corner centre) 0 count none-placed count (omega arith)))
-
-  run-most : (count : ℕ) → count ≤ 64 → length (runIds n samples state step corner centre count) ≤ lineMost
+  run-most : (count : ℕ) → count ≤ largest → length (runIds n label step corner centre count) ≤ lineMost
   unfolding runIds
   run-most count h =
-      omega (arith, bounded (placedIds n samples state step corner centre) 48 count (λ j l. placed-most j) count (omega arith))
+      omega (arith, bounded (placedIds n label step corner centre) cubeMost count (λ j l. placed-most j) count (omega arith))
 
-module _ (p : Pass) (samples : List ℤ) (state : List ℕ) (h : InPass p) (z : ℕ) (l : z < p .mz) where
-  pub line-most : (y : ℕ) → y < p .my → length (lineIds p samples state z y) ≤ lineMost
+module _ (p : Pass) (label : ℕ → Label) (h : InPass p) (z : ℕ) (l : z < p .mz) where
+  pub line-most : (y : ℕ) → y < p .my → length (lineIds p label z y) ≤ lineMost
   unfolding lineIds
   line-most y m =
-      run-most (p .n) samples state (p .step) (firstCorner (p .sizes) y z) (firstCentre (p .sizes) y z) (p .mx) (h .known z y l m .few)
+      run-most (p .n) label (p .step) (firstCorner (p .sizes) y z) (firstCentre (p .sizes) y z) (p .mx) (h .known z y l m .few)
 
-  pub layer-most : length (layerIds p samples state z) ≤ layerMost
+  pub layer-most : length (layerIds p label z) ≤ layerMost
   unfolding layerIds
-  layer-most = omega (arith, bounded (lineIds p samples state z) lineMost (p .my) line-most (p .my) (omega arith), h .y-few)
+  layer-most = omega (arith, bounded (lineIds p label z) lineMost (p .my) line-most (p .my) (omega arith), h .y-few)
 
-pub pass-most : (p : Pass) (samples : List ℤ) (state : List ℕ) → InPass p → length (passIds p samples state) ≤ passMost
+pub pass-most : (p : Pass) (label : ℕ → Label) → InPass p → length (passIds p label) ≤ passMost
 unfolding passIds
-pass-most p samples state h =
-    omega (arith, bounded (layerIds p samples state) layerMost (p .mz) (λ z l. layer-most p samples state h z l) (p .mz) (omega arith), h .z-few)
+pass-most p label h =
+    omega (arith, bounded (layerIds p label) layerMost (p .mz) (λ z l. layer-most p label h z l) (p .mz) (omega arith), h .z-few)
 
 -- a line, from the numbers that the code computes
-module _ (p : Pass) (z y corner first second : ℕ) (e : corner ≡ 0 + (p .sizes .nx + 1) * (y + (p .sizes .ny + 1) * z))
+module _ (p : Pass) (z y : ℕ) {corner first second : ℕ} (e : corner ≡ 0 + (p .sizes .nx + 1) * (y + (p .sizes .ny + 1) * z))
     (f : first ≡ corners (p .sizes)) (g : second ≡ 0 + p .sizes .nx * (y + p .sizes .ny * z)) where
   corner-is : corner ≡ firstCorner (p .sizes) y z
   unfolding linear
@@ -100,17 +102,18 @@ module _ (p : Pass) (z y corner first second : ℕ) (e : corner ≡ 0 + (p .size
   pub line-known : InPass p → z < p .mz → y < p .my → KnownRun (p .n) (p .step) corner (first + second) (p .mx)
   line-known h l m = rw (corner-is, centre-is) (h .known z y l m)
 
-  pub line-is : (samples : List ℤ) (state : List ℕ) → runIds (p .n) samples state (p .step) corner (first + second) (p .mx) ≡ lineIds p samples state z y
+  pub line-is : (label : ℕ → Label) → runIds (p .n) label (p .step) corner (first + second) (p .mx) ≡ lineIds p label z y
   unfolding lineIds
-  line-is samples state = λ i. runIds (p .n) samples state (p .step) (corner-is i) (centre-is i) (p .mx)
+  line-is label = λ i. runIds (p .n) label (p .step) (corner-is i) (centre-is i) (p .mx)
 
-  pub line-room : (samples : List ℤ) (state : List ℕ) (l : List ℕ) (i : ℕ) → Room l i (length (lineIds p samples state z y))
-      → Room l i (length (runIds (p .n) samples state (p .step) corner (first + second) (p .mx)))
-  line-room samples state l i r = rw (line-is samples state) r
+  pub line-room : (label : ℕ → Label) {l : List ℕ} {i : ℕ} → Room l i (length (lineIds p label z y))
+      → Room l i (length (runIds (p .n) label (p .step) corner (first + second) (p .mx)))
+  line-room label r = rw (line-is label) r
 
 -- the stride of a layer of corners is small
-pub layer-small : (s : Sizes) → Sized s → (s .nx + 1) * (s .ny + 1) ≤ 4225
-layer-small s h = mul-le-mul {n₁ = s .nx + 1} {m₁ = s .ny + 1} {n₂ = 65} {m₂ = 65} (omega (arith, h .x-high)) (omega (arith, h .y-high))
+pub layer-small : (s : Sizes) → Sized s → (s .nx + 1) * (s .ny + 1) ≤ strideMost
+layer-small s h =
+    mul-le-mul {n₁ = s .nx + 1} {m₁ = s .ny + 1} {n₂ = largest + 1} {m₂ = largest + 1} (omega (arith, h .x-high)) (omega (arith, h .y-high))
 
 -- the last axis, for any number that is none of the others
 pub last-axis : (s : Sizes) (n k : ℕ) → (k ≡ 0 → ⊥) → (k ≡ 1 → ⊥) → passOf s n along-z ≡ passOf s n (axisAt k)
@@ -135,50 +138,66 @@ module _ (s : Sizes) (n : ℕ) (step : Cube) where
   along-z-is e = λ i. record { sizes = s; n = n; step = e i; mx = s .nx; my = s .ny; mz = s .nz - 1 }
 
 -- a pass of the code in the block
-module _ (s : Sizes) (n : ℕ) (p : Pass) (a : Axis) (e : n ≡ points s) (f : p ≡ passOf s n a) where
+module _ (s : Sizes) {n : ℕ} {p : Pass} (a : Axis) (e : n ≡ points s) (f : p ≡ passOf s n a) where
   same-pass : p ≡ passOf s (points s) a
   same-pass = f ∙ ap (λ (k : ℕ). passOf s k a) e
 
-  pub in-pass : Sized s → InPass p
+  in-pass : Sized s → InPass p
   in-pass h = rw same-pass (pass-in s a h)
 
-  pub pass-tables : (samples : List ℤ) (state : List ℕ) → length samples ≡ points s → length state ≡ points s → Tables p samples state
-  pass-tables samples state h g =
+  pass-tables : {samples : List ℤ} {state : List ℕ} → (length samples ≡ points s) × (length state ≡ points s) → Tables p samples state
+  pass-tables h =
       let l = ap (λ (q : Pass). q .n) same-pass ∙ sizes-are s (points s) a .1 in
-      record { samples-long = h ∙ sym l; state-long = g ∙ sym l }
+      record { samples-long = h .0 ∙ sym l; state-long = h .1 ∙ sym l }
 
-  pub pass-ids : (samples : List ℤ) (state : List ℕ) → passIds p samples state ≡ passIds (passOf s (points s) a) samples state
-  pass-ids samples state = ap (λ (q : Pass). passIds q samples state) same-pass
+  pass-ids : (label : ℕ → Label) → passIds p label ≡ passIds (passOf s (points s) a) label
+  pass-ids label = ap (λ (q : Pass). passIds q label) same-pass
 
--- the three passes by the numbers of their axes
-unfoldable pub passAt : Sizes → List ℤ → List ℕ → ℕ → List ℕ
-passAt s samples state k = passIds (passOf s (points s) (axisAt k)) samples state
+module _ (s : Sizes) (label : ℕ → Label) where
+  -- the three passes by the numbers of their axes
+  unfoldable pub passAt : ℕ → List ℕ
+  passAt k = passIds (passOf s (points s) (axisAt k)) label
 
-pub block-is : (s : Sizes) (samples : List ℤ) (state : List ℕ) → gather (passAt s samples state) (below 3) ≡ blockIds s samples state
-unfolding gather from blockIds passAt
-block-is s samples state = refl
+  three-passes : gather passAt (below 3) ≡ blockIds s label
+  unfolding gather from blockIds passAt
+  three-passes = refl
 
-pass-at-most : (s : Sizes) (samples : List ℤ) (state : List ℕ) → Sized s → (k : ℕ) → length (passAt s samples state k) ≤ passMost
-unfolding passAt
-pass-at-most s samples state h k = pass-most (passOf s (points s) (axisAt k)) samples state (pass-in s (axisAt k) h)
+  pass-at-most : Sized s → (k : ℕ) → length (passAt k) ≤ passMost
+  unfolding passAt
+  pass-at-most h k = pass-most (passOf s (points s) (axisAt k)) label (pass-in s (axisAt k) h)
 
-pub pass-at-is : (s : Sizes) (samples : List ℤ) (state : List ℕ) (n : ℕ) (p : Pass) (k : ℕ) → n ≡ points s → p ≡ passOf s n (axisAt k)
-    → passIds p samples state ≡ passAt s samples state k
-unfolding passAt
-pass-at-is s samples state n p k e f = pass-ids s n p (axisAt k) e f samples state
+  -- when the first k of them are written
+  pub record Passed (l : List ℕ) (k : ℕ) (now : List ℕ) (at : ℕ) : Type 0 where
+    pub so-far : Written passAt l 0 k now at
 
--- after k passes, the next one may be written
-pub pass-ready : {s : Sizes} {samples : List ℤ} {state : List ℕ} {l now : List ℕ} {at k : ℕ} → Written (passAt s samples state) l 0 k now at → k < 3
-    → Sized s → (length samples ≡ points s) × (length state ≡ points s) → Room l 0 (length (blockIds s samples state)) → (n : ℕ) (p : Pass)
-    → n ≡ points s → p ≡ passOf s n (axisAt k)
-    → InPass p × (Tables p samples state × ((at + passMost ≤ rowsMost) × Room now at (length (passIds p samples state))))
-pass-ready {s} {samples} {state} {l} {k = k} w few h long room n p e f = (
-  in-pass s n p (axisAt k) e f h,
-  (
-    pass-tables s n p (axisAt k) e f samples state (long .0) (long .1),
-    (
-      omega (arith, index-most w passMost 3 (λ j m. pass-at-most s samples state h j) (omega arith)),
-      room-left w 3 (pass-at-is s samples state n p k e f) few (rw (block-is s samples state) room),
-    ),
-  ),
-)
+  pub no-pass : (l : List ℕ) → Passed l 0 l 0
+  no-pass l = record { so-far = none-written passAt l 0 }
+
+module _ {s : Sizes} {label : ℕ → Label} {l now : List ℕ} {at : ℕ} where
+  -- all three are the rows of the block
+  pub three-passed : Passed s label l 3 now at → Wrote (blockIds s label) l 0 now at
+  three-passed w = same-ids (three-passes s label) (all-written (w .so-far) 3 (omega arith) (omega arith))
+
+  module _ {k n : ℕ} {p : Pass} (w : Passed s label l k now at) (e : n ≡ points s) (f : p ≡ passOf s n (axisAt k)) where
+    pass-at-is : passIds p label ≡ passAt s label k
+    unfolding passAt
+    pass-at-is = pass-ids s (axisAt k) e f label
+
+    -- the next one is written
+    pub pass-more : {next : List ℕ} {to : ℕ} → Wrote (passIds p label) now at next to → Passed s label l (k + 1) next to
+    pass-more h = record { so-far = more-written (w .so-far) pass-at-is h }
+
+    -- and may be
+    pub pass-ready : {samples : List ℤ} {state : List ℕ} → k < 3 → Sized s → (length samples ≡ points s) × (length state ≡ points s)
+        → Room l 0 (length (blockIds s label))
+        → InPass p × (Tables p samples state × ((at + passMost ≤ rowsMost) × Room now at (length (passIds p label))))
+    pass-ready few h long room = (
+      in-pass s (axisAt k) e f h,
+      (
+        pass-tables s (axisAt k) e f long,
+        (
+          omega (arith, index-most (w .so-far) passMost 3 (λ j m. pass-at-most s label h j) (omega arith)),
+          room-left (w .so-far) 3 pass-at-is few (rw (three-passes s label) room),
+        ),
+      ),
+    )

@@ -8,24 +8,27 @@ use mathlib.Core.List.{List, [], _∷_, _++_, append-nil, append-assoc}
 use lib.ListN.{length, drop, set, length-append}
 use lib.Seq.{sets, sets-eq, length-sets}
 use Rattle.basics.specs.Lists.{gather, from, below}
-use Rattle.emit.specs.inner.Stencils.{Room}
+use Rattle.rows.specs.inner.Stencils.{Wrote}
+use Rattle.rows.proofs.Sets.{sets-append}
+use Rattle.emit.specs.inner.Cubes.{Room}
 
--- writing two lists is writing the one and then the other
-pub sets-append : (xs ys l : List ℕ) (i : ℕ) → sets l i (xs ++ ys) ≡ sets (sets l i xs) (i + length xs) ys
-sets-append [] ys l i = rw (add-zero i) refl
-sets-append (x ∷ xs) ys l i =
-    let e : suc i + length xs ≡ i + suc (length xs) = omega arith in
-    sets-append xs ys (set l i x) (suc i) ∙ ap (λ (k : ℕ). sets (sets (set l i x) (suc i) xs) k ys) e
-
--- nothing is written into an empty table
-pub sets-none : (l vs : List ℕ) (i : ℕ) → length l ≡ 0 → l ≡ sets l i vs
+-- nothing is written into an empty table: rows are only counted
+sets-none : (l vs : List ℕ) (i : ℕ) → length l ≡ 0 → l ≡ sets l i vs
 sets-none [] [] i e = refl
 sets-none [] (v ∷ vs) i e = sets-none [] vs (suc i) e
 sets-none (x ∷ l) vs i e = absurd (omega arith)
 
+pub only-counted : {ids l : List ℕ} {i to : ℕ} → length l ≡ 0 → to ≡ i + length ids → Wrote ids l i l to
+only-counted {ids} {l} {i} e f = record { now-is = sets-none l ids i e; to-is = f }
+
 -- what is written, under another name
-pub same-ids : (l : List ℕ) (i : ℕ) (a b now : List ℕ) (to : ℕ) → a ≡ b → (to ≡ i + length a) × (now ≡ sets l i a) → (to ≡ i + length b) × (now ≡ sets l i b)
-same-ids l i a b now to e w = (w .0 ∙ ap (λ (x : List ℕ). i + length x) e, w .1 ∙ ap (sets l i) e)
+pub same-ids : {a b l now : List ℕ} {i to : ℕ} → a ≡ b → Wrote a l i now to → Wrote b l i now to
+same-ids {l = l} {i = i} e w =
+    record { now-is = w .now-is ∙ ap (sets l i) e; to-is = w .to-is ∙ ap (λ (x : List ℕ). i + length x) e }
+
+-- nothing to write
+pub nothing : {ids : List ℕ} (l : List ℕ) (i : ℕ) → ids ≡ [] → Wrote ids l i l i
+nothing l i e = rw e (record { now-is = refl; to-is = omega arith })
 
 from-more : (a n : ℕ) → from a (suc n) ≡ from a n ++ ((a + n) ∷ [])
 unfolding from
@@ -83,14 +86,15 @@ module _ {f : ℕ → List ℕ} {l : List ℕ} {i k : ℕ} {now : List ℕ} {at 
   pub kept-long : length now ≡ length l
   kept-long = ap length (w .now-is) ∙ length-sets l i (gather f (below k))
 
-  pub more-written : {vs next : List ℕ} {to : ℕ} → vs ≡ f k → next ≡ sets now at vs → to ≡ at + length vs → Written f l i (k + 1) next to
-  more-written {vs} e h g = record {
+  pub more-written : {vs next : List ℕ} {to : ℕ} → vs ≡ f k → Wrote vs now at next to → Written f l i (k + 1) next to
+  more-written {vs} e h = record {
     now-is =
-        h ∙ rw (w .now-is, w .at-is, e, one-more f k) (sym (sets-append (gather f (below k)) (f k) l i));
-    at-is = omega (arith, g, ap length e, longer f k, w .at-is);
+        h .now-is ∙ rw (w .now-is, w .at-is, e, one-more f k) (sym (sets-append (gather f (below k)) (f k) l i));
+    at-is = omega (arith, h .to-is, ap length e, longer f k, w .at-is);
   }
 
-  pub fits-left : (n : ℕ) {vs : List ℕ} → vs ≡ f k → k < n → i + length (gather f (below n)) ≤ length l → at + length vs ≤ length now
+  pub fits-left : (n : ℕ) {vs : List ℕ} → vs ≡ f k → k < n → i + length (gather f (below n)) ≤ length l
+      → at + length vs ≤ length now
   fits-left n e h r = omega (arith, r, ap length e, kept-long, fits f k n h, w .at-is)
 
   pub room-left : (n : ℕ) {vs : List ℕ} → vs ≡ f k → k < n → Room l i (length (gather f (below n))) → Room now at (length vs)
@@ -101,7 +105,7 @@ module _ {f : ℕ → List ℕ} {l : List ℕ} {i k : ℕ} {now : List ℕ} {at 
   pub index-most : (c n : ℕ) → ((j : ℕ) → j < n → length (f j) ≤ c) → k ≤ n → at ≤ i + c * k
   index-most c n h b = omega (arith, bounded f c n h k b, w .at-is)
 
-  pub all-written : (n : ℕ) → n ≤ k → k ≤ n → (at ≡ i + length (gather f (below n))) × (now ≡ sets l i (gather f (below n)))
+  pub all-written : (n : ℕ) → n ≤ k → k ≤ n → Wrote (gather f (below n)) l i now at
   all-written n p q =
       let e : k ≡ n = omega arith in
-      (rw e at (w .at-is), rw e at (w .now-is))
+      record { now-is = rw e at (w .now-is); to-is = rw e at (w .at-is) }

@@ -5,14 +5,15 @@ ghost use mathlib.Core.Path.{_≡_};
 ghost use mathlib.Core.Bool.{true, false};
 ghost use Prim.Native.Nat.{ℕ, _+_, _<_, _≤_};
 ghost use lib.ListN.{length};
-ghost use Rattle.emit.specs.inner.Corners.{most};
+ghost use Rattle.moving.specs.Label.{labels};
+ghost use Rattle.rows.specs.inner.Corners.{most};
 ghost use Rattle.emit.specs.inner.Cubes.{Light, plusCount};
 ghost use Rattle.emit.specs.inner.Passes.{movedCube, KnownRun};
 
 // A line of so many points from one on has a sample above zero.
 fn has_plus(samples: &[i16], from: usize, count: usize) -> bool
     requires { ⌜ (from + count ≤ length (now samples)) × (length (now samples) ≤ most) ⌝ }
-    ensures { λ r. ⌜ (r ≡ false → Light (now (samples .entry)) from count) ⌝ }
+    ensures { λ r. ⌜ (r ≡ false → Light (labels (now (samples .entry))) from count) ⌝ }
 {
     ranges::has_some(true, samples, from, from + count)
 }
@@ -21,7 +22,8 @@ fn has_plus(samples: &[i16], from: usize, count: usize) -> bool
 pub fn is_bare_run(samples: &[i16], step: Cube, corner: usize, centre: usize, count: usize) -> bool
     requires { ⌜ length (now samples) ≤ most ⌝ }
     requires { ⌜ KnownRun (length (now samples)) step corner centre count ⌝ }
-    ensures { λ r. ⌜ (r ≡ true → (x : ℕ) → x < count → plusCount (now (samples .entry)) (movedCube step (corner + x) (centre + x)) ≡ 0) ⌝ }
+    ensures { λ r. ⌜ (r ≡ true → (x : ℕ) → x < count
+        → plusCount (labels (now (samples .entry))) (movedCube step (corner + x) (centre + x)) ≡ 0) ⌝ }
 {
     if count == 0 {
         return true;

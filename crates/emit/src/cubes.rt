@@ -2,34 +2,36 @@
 // corners of the shared face in their turn, and the weights of their labels, read once.
 use crate::Cube;
 use crate::CubeWeights;
-use crate::Tetra;
-use crate::Weights;
-use crate::stencils;
-use crate::writing;
 use ground::Place;
+use ground::signs;
 use ground::volume;
+use rows::Tetra;
+use rows::Weights;
+use rows::stencils;
+use rows::writing;
 ghost use mathlib.Core.Path.{_≡_};
 ghost use Prim.Native.Nat.{_+_, _<_, _≤_};
 ghost use lib.ListN.{length, getD};
-ghost use lib.Seq.{sets};
 ghost use Rattle.basics.specs.Lists.{gather, below};
-ghost use Rattle.moving.specs.Label.{labelOf};
+ghost use Rattle.moving.specs.Label.{labelOf, labels};
+ghost use Rattle.moving.specs.Reading.{labelAfter};
 ghost use Rattle.stencil.specs.inner.Sign.{winds};
 ghost use Rattle.ground.specs.inner.Places.{placeAt, InBox, placeBox};
-ghost use Rattle.emit.specs.inner.Corners.{most, quarterAt};
-ghost use Rattle.emit.specs.inner.Picks.{weight};
-ghost use Rattle.emit.specs.inner.Stencils.{Room, rowsMost};
-ghost use Rattle.emit.specs.inner.Cubes.{weightAt, windsWith, cubeWeights, quarterOf, quarterWeights, KnownCube, SmallCube, plusAt, plusCount, unmoved, solidCube, cubeCount, edgeIds, cubeIds};
+ghost use Rattle.rows.specs.inner.Corners.{most, quarterAt};
+ghost use Rattle.rows.specs.inner.Picks.{weight};
+ghost use Rattle.rows.specs.inner.Stencils.{rowsMost, Wrote};
+ghost use Rattle.emit.specs.inner.Cubes.{cubeWeights, windsWith, quarterOf, quarterWeights, KnownCube, SmallCube, plusAt, plusCount};
+ghost use Rattle.emit.specs.inner.Cubes.{unmoved, solidCube, cubeCount, edgeIds, cubeIds, cubeMost, Room};
 
 // The weight of a sample's sign.
 fn weight_of(x: i16) -> usize
     ensures { λ r. ⌜ r ≡ weight (labelOf x) ⌝ }
     ensures { λ r. ⌜ r ≤ 5 ⌝ }
 {
-    if 0 < x {
+    if signs::is_plus(x) {
         return 5;
     }
-    if x < 0 {
+    if signs::is_minus(x) {
         return 1;
     }
     0
@@ -38,7 +40,7 @@ fn weight_of(x: i16) -> usize
 // The weight of a point's label: zero once it has moved.
 fn weigh(samples: &[i16], state: &[u8], p: usize) -> usize
     requires { ⌜ (p < length (now samples)) × (p < length (now state)) ⌝ }
-    ensures { λ r. ⌜ r ≡ weightAt (now (samples .entry)) (now (state .entry)) p ⌝ }
+    ensures { λ r. ⌜ r ≡ weight (labelAfter (labels (now (samples .entry))) (now (state .entry)) p) ⌝ }
     ensures { λ r. ⌜ r ≤ 5 ⌝ }
 {
     if state[p] != 0 {
@@ -51,7 +53,7 @@ fn weigh(samples: &[i16], state: &[u8], p: usize) -> usize
 fn weigh_cube(samples: &[i16], state: &[u8], c: Cube) -> CubeWeights
     requires { ⌜ KnownCube (length (now samples)) c ⌝ }
     requires { ⌜ length (now state) ≡ length (now samples) ⌝ }
-    ensures { λ r. ⌜ r ≡ cubeWeights (now (samples .entry)) (now (state .entry)) c ⌝ }
+    ensures { λ r. ⌜ r ≡ cubeWeights (labelAfter (labels (now (samples .entry))) (now (state .entry))) c ⌝ }
     ensures { λ r. ⌜ SmallCube r ⌝ }
 {
     let low = weigh(samples, state, c.low);
@@ -196,16 +198,16 @@ fn winding(e: usize) -> bool
 // 1 for a sample above zero, 0 for any other.
 fn plus_at(samples: &[i16], p: usize) -> usize
     requires { ⌜ p < length (now samples) ⌝ }
-    ensures { λ r. ⌜ r ≡ plusAt (now (samples .entry)) p ⌝ }
+    ensures { λ r. ⌜ r ≡ plusAt (labels (now (samples .entry))) p ⌝ }
     ensures { λ r. ⌜ r ≤ 1 ⌝ }
 {
-    if 0 < samples[p] { 1 } else { 0 }
+    if signs::is_plus(samples[p]) { 1 } else { 0 }
 }
 
 // How many of the six points have a sample above zero.
 fn count_plus(samples: &[i16], c: Cube) -> usize
     requires { ⌜ KnownCube (length (now samples)) c ⌝ }
-    ensures { λ r. ⌜ r ≡ plusCount (now (samples .entry)) c ⌝ }
+    ensures { λ r. ⌜ r ≡ plusCount (labels (now (samples .entry))) c ⌝ }
 {
     let centres = plus_at(samples, c.low) + plus_at(samples, c.high);
     let front = plus_at(samples, c.mm) + plus_at(samples, c.pm);
@@ -238,10 +240,9 @@ fn is_unmoved(state: &[u8], c: Cube) -> bool
 fn write_solid_cube(rows: &mut [u32], at: usize, n: usize, c: Cube) -> usize
     requires { ⌜ n ≤ most ⌝ }
     requires { ⌜ KnownCube n c ⌝ }
-    requires { ⌜ at + 48 ≤ rowsMost ⌝ }
+    requires { ⌜ at + cubeMost ≤ rowsMost ⌝ }
     requires { ⌜ Room (now rows) at (length (gather (edgeIds n c solidCube) (below 4))) ⌝ }
-    ensures { λ r. ⌜ r ≡ at + length (gather (edgeIds n c solidCube) (below 4)) ⌝ }
-    ensures { λ r. ⌜ now (rows .exit) ≡ sets (now (rows .entry)) at (gather (edgeIds n c solidCube) (below 4)) ⌝ }
+    ensures { λ r. ⌜ Wrote (gather (edgeIds n c solidCube) (below 4)) (now (rows .entry)) at (now (rows .exit)) r ⌝ }
 {
     if rows.len() == 0 {
         return at + 16;
@@ -282,10 +283,10 @@ fn write_mixed_cube(
     requires { ⌜ n ≤ most ⌝ }
     requires { ⌜ (length (now samples) ≡ n) × (length (now state) ≡ n) ⌝ }
     requires { ⌜ KnownCube n c ⌝ }
-    requires { ⌜ at + 48 ≤ rowsMost ⌝ }
-    requires { ⌜ Room (now rows) at (length (cubeIds n (now samples) (now state) c)) ⌝ }
-    ensures { λ r. ⌜ r ≡ at + length (cubeIds n (now (samples .entry)) (now (state .entry)) c) ⌝ }
-    ensures { λ r. ⌜ now (rows .exit) ≡ sets (now (rows .entry)) at (cubeIds n (now (samples .entry)) (now (state .entry)) c) ⌝ }
+    requires { ⌜ at + cubeMost ≤ rowsMost ⌝ }
+    requires { ⌜ Room (now rows) at (length (cubeIds n (labelAfter (labels (now samples)) (now state)) c)) ⌝ }
+    ensures { λ r. ⌜ Wrote (cubeIds n (labelAfter (labels (now (samples .entry))) (now (state .entry))) c)
+        (now (rows .entry)) at (now (rows .exit)) r ⌝ }
 {
     let w = weigh_cube(samples, state, c);
     if rows.len() == 0 {
@@ -314,10 +315,10 @@ pub fn write_cube(
     requires { ⌜ n ≤ most ⌝ }
     requires { ⌜ (length (now samples) ≡ n) × (length (now state) ≡ n) ⌝ }
     requires { ⌜ KnownCube n c ⌝ }
-    requires { ⌜ at + 48 ≤ rowsMost ⌝ }
-    requires { ⌜ Room (now rows) at (length (cubeIds n (now samples) (now state) c)) ⌝ }
-    ensures { λ r. ⌜ r ≡ at + length (cubeIds n (now (samples .entry)) (now (state .entry)) c) ⌝ }
-    ensures { λ r. ⌜ now (rows .exit) ≡ sets (now (rows .entry)) at (cubeIds n (now (samples .entry)) (now (state .entry)) c) ⌝ }
+    requires { ⌜ at + cubeMost ≤ rowsMost ⌝ }
+    requires { ⌜ Room (now rows) at (length (cubeIds n (labelAfter (labels (now samples)) (now state)) c)) ⌝ }
+    ensures { λ r. ⌜ Wrote (cubeIds n (labelAfter (labels (now (samples .entry))) (now (state .entry))) c)
+        (now (rows .entry)) at (now (rows .exit)) r ⌝ }
 {
     let plus = count_plus(samples, c);
     if plus == 0 {

@@ -9,14 +9,16 @@ use lattice::numbers;
 ghost use mathlib.Core.Path.{_≡_};
 ghost use Prim.Native.Nat.{_+_, _*_, _<_, _≤_};
 ghost use lib.ListN.{length};
-ghost use lib.Seq.{sets};
 ghost use Rattle.lattice.specs.Counts.{Sized, points};
-ghost use Rattle.emit.specs.inner.Stencils.{Room, rowsMost};
-ghost use Rattle.emit.specs.inner.Passes.{movedCube, KnownRun, InPass, Tables, runIds, lineIds, layerIds, passIds, lineMost, layerMost, passMost, stepBy, passOf, blockIds};
+ghost use Rattle.moving.specs.Label.{labels};
+ghost use Rattle.moving.specs.Reading.{labelAfter};
 ghost use Rattle.filling.specs.Fill.{overwritten};
-ghost use Rattle.emit.specs.inner.Corners.{most, axisAt};
+ghost use Rattle.rows.specs.inner.Corners.{most, axisAt};
+ghost use Rattle.rows.specs.inner.Stencils.{rowsMost, Wrote};
+ghost use Rattle.emit.specs.inner.Cubes.{KnownCube, Room};
+ghost use Rattle.emit.specs.inner.Passes.{movedCube, KnownRun, InPass, Tables, stepBy, strideMost, passOf};
+ghost use Rattle.emit.specs.inner.Passes.{runIds, lineIds, layerIds, passIds, blockIds, lineMost, layerMost, passMost};
 ghost use Rattle.emit.specs.inner.Mesh.{rowTotal, signedTable};
-ghost use Rattle.emit.specs.inner.Cubes.{KnownCube};
 
 // The six points, for a cube with this lowest corner and this centre.
 fn cube_at(step: Cube, corner: usize, centre: usize) -> Cube
@@ -50,9 +52,9 @@ fn write_run(
     requires { ⌜ (length (now samples) ≡ n) × (length (now state) ≡ n) ⌝ }
     requires { ⌜ KnownRun n step corner centre count ⌝ }
     requires { ⌜ at + lineMost ≤ rowsMost ⌝ }
-    requires { ⌜ Room (now rows) at (length (runIds n (now samples) (now state) step corner centre count)) ⌝ }
-    ensures { λ r. ⌜ r ≡ at + length (runIds n (now (samples .entry)) (now (state .entry)) step corner centre count) ⌝ }
-    ensures { λ r. ⌜ now (rows .exit) ≡ sets (now (rows .entry)) at (runIds n (now (samples .entry)) (now (state .entry)) step corner centre count) ⌝ }
+    requires { ⌜ Room (now rows) at (length (runIds n (labelAfter (labels (now samples)) (now state)) step corner centre count)) ⌝ }
+    ensures { λ r. ⌜ Wrote (runIds n (labelAfter (labels (now (samples .entry))) (now (state .entry))) step corner centre count)
+        (now (rows .entry)) at (now (rows .exit)) r ⌝ }
 {
     if bare::is_bare_run(samples, step, corner, centre, count) {
         return at;
@@ -79,9 +81,9 @@ fn write_line(
     requires { ⌜ Tables p (now samples) (now state) ⌝ }
     requires { ⌜ (y < p .my) × (z < p .mz) ⌝ }
     requires { ⌜ at + lineMost ≤ rowsMost ⌝ }
-    requires { ⌜ Room (now rows) at (length (lineIds p (now samples) (now state) z y)) ⌝ }
-    ensures { λ r. ⌜ r ≡ at + length (lineIds p (now (samples .entry)) (now (state .entry)) z y) ⌝ }
-    ensures { λ r. ⌜ now (rows .exit) ≡ sets (now (rows .entry)) at (lineIds p (now (samples .entry)) (now (state .entry)) z y) ⌝ }
+    requires { ⌜ Room (now rows) at (length (lineIds p (labelAfter (labels (now samples)) (now state)) z y)) ⌝ }
+    ensures { λ r. ⌜ Wrote (lineIds p (labelAfter (labels (now (samples .entry))) (now (state .entry))) z y)
+        (now (rows .entry)) at (now (rows .exit)) r ⌝ }
 {
     let s = p.sizes;
     let step = p.step;
@@ -104,9 +106,9 @@ fn write_layer(
     requires { ⌜ Tables p (now samples) (now state) ⌝ }
     requires { ⌜ z < p .mz ⌝ }
     requires { ⌜ at + layerMost ≤ rowsMost ⌝ }
-    requires { ⌜ Room (now rows) at (length (layerIds p (now samples) (now state) z)) ⌝ }
-    ensures { λ r. ⌜ r ≡ at + length (layerIds p (now (samples .entry)) (now (state .entry)) z) ⌝ }
-    ensures { λ r. ⌜ now (rows .exit) ≡ sets (now (rows .entry)) at (layerIds p (now (samples .entry)) (now (state .entry)) z) ⌝ }
+    requires { ⌜ Room (now rows) at (length (layerIds p (labelAfter (labels (now samples)) (now state)) z)) ⌝ }
+    ensures { λ r. ⌜ Wrote (layerIds p (labelAfter (labels (now (samples .entry))) (now (state .entry))) z)
+        (now (rows .entry)) at (now (rows .exit)) r ⌝ }
 {
     let mut to = at;
     for y in 0..p.my {
@@ -120,9 +122,9 @@ fn write_pass(rows: &mut [u32], at: usize, samples: &[i16], state: &[u8], p: Pas
     requires { ⌜ InPass p ⌝ }
     requires { ⌜ Tables p (now samples) (now state) ⌝ }
     requires { ⌜ at + passMost ≤ rowsMost ⌝ }
-    requires { ⌜ Room (now rows) at (length (passIds p (now samples) (now state))) ⌝ }
-    ensures { λ r. ⌜ r ≡ at + length (passIds p (now (samples .entry)) (now (state .entry))) ⌝ }
-    ensures { λ r. ⌜ now (rows .exit) ≡ sets (now (rows .entry)) at (passIds p (now (samples .entry)) (now (state .entry))) ⌝ }
+    requires { ⌜ Room (now rows) at (length (passIds p (labelAfter (labels (now samples)) (now state)))) ⌝ }
+    ensures { λ r. ⌜ Wrote (passIds p (labelAfter (labels (now (samples .entry))) (now (state .entry))))
+        (now (rows .entry)) at (now (rows .exit)) r ⌝ }
 {
     let mut to = at;
     for z in 0..p.mz {
@@ -134,7 +136,7 @@ fn write_pass(rows: &mut [u32], at: usize, samples: &[i16], state: &[u8], p: Pas
 // The six points of a cube, counted from its lowest corner and its centre, by the strides of the
 // corners along the axis, the next one and the one after.
 fn step_by(axis: usize, high: usize, u: usize, v: usize, w: usize) -> Cube
-    requires { ⌜ (u ≤ 4225) × (v ≤ 4225) × (w ≤ 4225) ⌝ }
+    requires { ⌜ (u ≤ strideMost) × (v ≤ strideMost) × (w ≤ strideMost) ⌝ }
     ensures { λ r. ⌜ r ≡ stepBy axis high u v w ⌝ }
 {
     Cube {
@@ -197,9 +199,9 @@ fn pass_along(s: Sizes, n: usize, axis: usize) -> Pass
 fn write_all(rows: &mut [u32], s: Sizes, samples: &[i16], state: &[u8]) -> usize
     requires { ⌜ Sized s ⌝ }
     requires { ⌜ (length (now samples) ≡ points s) × (length (now state) ≡ points s) ⌝ }
-    requires { ⌜ Room (now rows) 0 (length (blockIds s (now samples) (now state))) ⌝ }
-    ensures { λ r. ⌜ r ≡ 0 + length (blockIds s (now (samples .entry)) (now (state .entry))) ⌝ }
-    ensures { λ r. ⌜ now (rows .exit) ≡ sets (now (rows .entry)) 0 (blockIds s (now (samples .entry)) (now (state .entry))) ⌝ }
+    requires { ⌜ Room (now rows) 0 (length (blockIds s (labelAfter (labels (now samples)) (now state)))) ⌝ }
+    ensures { λ r. ⌜ Wrote (blockIds s (labelAfter (labels (now (samples .entry))) (now (state .entry))))
+        (now (rows .entry)) 0 (now (rows .exit)) r ⌝ }
 {
     let n = counts::point_count(s);
     let along_x = pass_along(s, n, 0);
@@ -214,7 +216,7 @@ fn write_all(rows: &mut [u32], s: Sizes, samples: &[i16], state: &[u8]) -> usize
 pub fn count_rows(s: Sizes, samples: &[i16], state: &[u8]) -> usize
     requires { ⌜ Sized s ⌝ }
     requires { ⌜ (length (now samples) ≡ points s) × (length (now state) ≡ points s) ⌝ }
-    ensures { λ r. ⌜ r ≡ rowTotal s (now (samples .entry)) (now (state .entry)) ⌝ }
+    ensures { λ r. ⌜ r ≡ rowTotal s (labelAfter (labels (now (samples .entry))) (now (state .entry))) ⌝ }
 {
     let mut none = [0u32; 1];
     let end = write_all(&mut none[..0], s, samples, state);
@@ -225,8 +227,9 @@ pub fn count_rows(s: Sizes, samples: &[i16], state: &[u8]) -> usize
 pub fn write_rows(s: Sizes, samples: &[i16], state: &[u8], rows: &mut [u32])
     requires { ⌜ Sized s ⌝ }
     requires { ⌜ (length (now samples) ≡ points s) × (length (now state) ≡ points s) ⌝ }
-    requires { ⌜ 4 * rowTotal s (now samples) (now state) ≤ length (now rows) ⌝ }
-    ensures { λ _. ⌜ now (rows .exit) ≡ overwritten (signedTable s (now (samples .entry)) (now (state .entry))) (now (rows .entry)) ⌝ }
+    requires { ⌜ 4 * rowTotal s (labelAfter (labels (now samples)) (now state)) ≤ length (now rows) ⌝ }
+    ensures { λ _. ⌜ now (rows .exit) ≡ overwritten (signedTable s (labelAfter (labels (now (samples .entry))) (now (state .entry))))
+        (now (rows .entry)) ⌝ }
 {
     write_all(rows, s, samples, state);
 }

@@ -1,6 +1,6 @@
 // Signs of samples: the one place where the code makes a label of a sample.
 ghost use mathlib.Core.Path.{_≡_};
-ghost use Rattle.moving.specs.Label.{labelOf, isPlus, isZero, opposed};
+ghost use Rattle.moving.specs.Label.{labelOf, isPlus, isZero, isMinus, opposed};
 ghost use Rattle.ground.specs.inner.Signs.{hasSign};
 
 pub fn is_plus(a: i16) -> bool
@@ -16,6 +16,12 @@ pub fn is_zero(a: i16) -> bool
         return false;
     }
     !(a < 0)
+}
+
+pub fn is_minus(a: i16) -> bool
+    ensures { λ r. ⌜ r ≡ isMinus (labelOf a) ⌝ }
+{
+    a < 0
 }
 
 // A sample is above zero, or below.

@@ -1,53 +1,45 @@
 -- The tetrahedra between a cube and the next one along an axis, and what is written for them.
-use Prim.Native.Nat.{ℕ, zero, suc, _+_, _≤_, _<_}
+use Prim.Native.Nat.{ℕ, zero, suc, _+_, _*_, _≤_, _<_}
 use mathlib.Core.Path.{_≡_}
-use mathlib.Core.List.{List, []}
+use mathlib.Core.List.{List}
 use mathlib.Core.Bool.{Bool}
-use lib.IntN.{ℤ, pos}
+use lib.IntN.{pos}
 use lib.Dec.{eqb}
-use lib.ListN.{getD}
+use lib.ListN.{length, getD}
 use lib.Signed.{ltZ}
 use Rattle.basics.specs.Choice.{if_then_else_}
 use Rattle.basics.specs.Lists.{gather, below}
-use Rattle.lattice.specs.declared.Sizes.{Sizes}
 use Rattle.lattice.specs.Axis.{xyz}
 use Rattle.geometry.specs.Place.{Place}
 use Rattle.geometry.specs.Volume.{sixVolume}
-use Rattle.moving.specs.Block.{blockOf}
 use Rattle.moving.specs.declared.Label.{Label}
-use Rattle.moving.specs.Label.{labelOf, isPlus}
-use Rattle.moving.specs.Moving.{labelAfter}
+use Rattle.moving.specs.Label.{isPlus}
+use Rattle.stencil.specs.Stencil.{stencilOf}
 use Rattle.stencil.specs.inner.Sign.{winds}
-use Rattle.emit.specs.declared.Tetra.{Tetra}
-use Rattle.emit.specs.declared.Weights.{Weights}
+use Rattle.rows.specs.declared.Tetra.{Tetra}
+use Rattle.rows.specs.declared.Weights.{Weights}
+use Rattle.rows.specs.inner.Corners.{quarterAt}
+use Rattle.rows.specs.inner.Picks.{weight, sum}
+use Rattle.rows.specs.inner.Stencils.{rowCount, tetraIds, tetraMost}
 use Rattle.emit.specs.declared.Cube.{Cube}
 use Rattle.emit.specs.declared.CubeWeights.{CubeWeights}
-use Rattle.emit.specs.inner.Corners.{quarterAt}
-use Rattle.stencil.specs.Stencil.{stencilOf}
-use Rattle.emit.specs.inner.Picks.{weight, sum}
-use Rattle.emit.specs.inner.Stencils.{rowCount, tetraIds}
 
--- the label of a point after moving needs neither sizes nor cuts
-abbrev pub labelIn : List ℤ → List ℕ → ℕ → Label
-labelIn samples state p = labelAfter (blockOf (record { nx = 1; ny = 1; nz = 1 }) samples []) state p
-
-unfoldable pub weightAt : List ℤ → List ℕ → ℕ → ℕ
-weightAt samples state p = weight (labelIn samples state p)
-
-unfoldable pub cubeWeights : List ℤ → List ℕ → Cube → CubeWeights
-cubeWeights samples state c =
+-- the weights of the six points when points have these labels
+unfoldable pub cubeWeights : (ℕ → Label) → Cube → CubeWeights
+cubeWeights label c =
     record {
-      low = weightAt samples state (c .low);
-      high = weightAt samples state (c .high);
-      mm = weightAt samples state (c .mm);
-      pm = weightAt samples state (c .pm);
-      pp = weightAt samples state (c .pp);
-      mp = weightAt samples state (c .mp);
+      low = weight (label (c .low));
+      high = weight (label (c .high));
+      mm = weight (label (c .mm));
+      pm = weight (label (c .pm));
+      pp = weight (label (c .pp));
+      mp = weight (label (c .mp));
     }
 
 -- two corners of the shared face and the two centres, seen along the axis, the next one and the one after, wind positively
 abbrev pub windsWith : Place → Place → Bool
-windsWith first second = ltZ (pos 0) (sixVolume first second (xyz (pos 256) (pos 256) (pos 256)) (xyz (pos 768) (pos 256) (pos 256)))
+windsWith first second =
+    ltZ (pos 0) (sixVolume first second (xyz (pos 256) (pos 256) (pos 256)) (xyz (pos 768) (pos 256) (pos 256)))
 
 -- the tetrahedron of an edge of the turn, its corners ascending, and their weights
 abbrev pub quarterOf : Cube → ℕ → Tetra
@@ -72,6 +64,7 @@ pub record KnownCube (n : ℕ) (c : Cube) : Type 0 where
   pub pp-in : c .pp < n
   pub mp-in : c .mp < n
 
+-- weights of labels
 pub record SmallCube (w : CubeWeights) : Type 0 where
   pub low-small : w .low ≤ 5
   pub high-small : w .high ≤ 5
@@ -80,24 +73,27 @@ pub record SmallCube (w : CubeWeights) : Type 0 where
   pub pp-small : w .pp ≤ 5
   pub mp-small : w .mp ≤ 5
 
--- 1 for a sample above zero, 0 for any other
-abbrev pub counted : Bool → ℕ
-counted b = if b then 1 else 0
-
-unfoldable pub plusAt : List ℤ → ℕ → ℕ
-plusAt samples p = counted (isPlus (labelOf (getD samples p (pos 0))))
-
--- no sample of a line of so many points from one on is above zero
-abbrev pub Light : List ℤ → ℕ → ℕ → Type 0
-Light samples from count = (x : ℕ) → x < count → plusAt samples (from + x) ≡ 0
-
--- how many of the six points have a sample above zero, and whether none has moved
+-- f at the six points, added up
 abbrev pub total : (ℕ → ℕ) → Cube → ℕ
 total f c = f (c .low) + f (c .high) + (f (c .mm) + f (c .pm)) + (f (c .pp) + f (c .mp))
 
-unfoldable pub plusCount : List ℤ → Cube → ℕ
-plusCount samples c = total (plusAt samples) c
+abbrev pub counted : Bool → ℕ
+counted b = if b then 1 else 0
 
+module _ (label : ℕ → Label) where
+  -- 1 for plus, 0 for any other label
+  unfoldable pub plusAt : ℕ → ℕ
+  plusAt p = counted (isPlus (label p))
+
+  -- no label in a line of so many points from one on is plus
+  abbrev pub Light : ℕ → ℕ → Type 0
+  Light from count = (x : ℕ) → x < count → plusAt (from + x) ≡ 0
+
+  -- how many of the six points are plus
+  unfoldable pub plusCount : Cube → ℕ
+  plusCount c = total plusAt c
+
+-- none of the six points has moved: their state bytes are all 0
 unfoldable pub unmoved : List ℕ → Cube → Bool
 unmoved state c = eqb (total (λ p. getD state p 0) c) 0
 
@@ -105,6 +101,7 @@ unmoved state c = eqb (total (λ p. getD state p 0) c) 0
 abbrev pub solidCube : CubeWeights
 solidCube = record { low = 5; high = 5; mm = 5; pm = 5; pp = 5; mp = 5 }
 
+-- what is written for one of the four tetrahedra, by the weights of the six points
 unfoldable pub edgeIds : ℕ → Cube → CubeWeights → ℕ → List ℕ
 edgeIds n c w e = tetraIds n (winds (quarterAt e)) (quarterOf c e) (quarterWeights w e)
 
@@ -115,5 +112,14 @@ cubeCount w = count 0 + count 1 + count 2 + count 3
     count : ℕ → ℕ
     count e = rowCount (stencilOf (sum (quarterWeights w e)))
 
-unfoldable pub cubeIds : ℕ → List ℤ → List ℕ → Cube → List ℕ
-cubeIds n samples state c = gather (edgeIds n c (cubeWeights samples state c)) (below 4)
+-- what is written for the four tetrahedra among n points when points have these labels
+unfoldable pub cubeIds : ℕ → (ℕ → Label) → Cube → List ℕ
+cubeIds n label c = gather (edgeIds n c (cubeWeights label c)) (below 4)
+
+-- at most so many numbers
+abbrev pub cubeMost : ℕ
+cubeMost = 4 * tetraMost
+
+-- a row table that is empty, so that rows are only counted, or has room for m numbers from an index on
+pub record Room (l : List ℕ) (at m : ℕ) : Type 0 where
+  pub fits : 0 < length l → at + m ≤ length l

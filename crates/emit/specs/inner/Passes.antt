@@ -1,20 +1,21 @@
 -- All cubes with a next one along an axis, by strides, and what is written for them.
 use Prim.Native.Nat.{ℕ, _+_, _*_, _-_, _≤_, _<_}
 use mathlib.Core.Path.{_≡_}
-use mathlib.Core.List.{List, [], _∷_}
+use mathlib.Core.List.{List}
 use lib.IntN.{ℤ}
 use lib.ListN.{length}
 use Rattle.basics.specs.Lists.{gather, below}
 use Rattle.lattice.specs.declared.Sizes.{Sizes}
 use Rattle.lattice.specs.declared.Kind.the-variants.{Corner, Centre}
 use Rattle.lattice.specs.Axis.{Axis, along-x, along-y, along-z, xyz}
-use Rattle.lattice.specs.Counts.{Sized, size, grid, corners, points}
+use Rattle.lattice.specs.Counts.{Sized, largest, grid, corners, points}
 use Rattle.lattice.specs.Point.{linear}
+use Rattle.moving.specs.declared.Label.{Label}
 use Rattle.stencil.specs.Tetrahedron.{axes}
 use Rattle.emit.specs.declared.Cube.{Cube}
 use Rattle.emit.specs.declared.Pass.{Pass}
-use Rattle.emit.specs.inner.Corners.{most}
-use Rattle.emit.specs.inner.Cubes.{KnownCube, cubeIds}
+use Rattle.rows.specs.inner.Corners.{most}
+use Rattle.emit.specs.inner.Cubes.{KnownCube, cubeIds, cubeMost}
 
 -- six points counted from a corner and a centre
 unfoldable pub movedCube : Cube → ℕ → ℕ → Cube
@@ -38,12 +39,13 @@ firstCentre s y z = corners s + linear (grid s Centre) (xyz 0 y z)
 
 -- so many cubes side by side along x
 pub record KnownRun (n : ℕ) (step : Cube) (corner centre count : ℕ) : Type 0 where
-  pub few : count ≤ 64
+  pub few : count ≤ largest
   pub known : (x : ℕ) → x < count → KnownCube n (movedCube step (corner + x) (centre + x))
 
-module _ (n : ℕ) (samples : List ℤ) (state : List ℕ) (step : Cube) (corner centre : ℕ) where
+-- what is written for one of them, and for all, when points have these labels
+module _ (n : ℕ) (label : ℕ → Label) (step : Cube) (corner centre : ℕ) where
   unfoldable pub placedIds : ℕ → List ℕ
-  placedIds x = cubeIds n samples state (movedCube step (corner + x) (centre + x))
+  placedIds x = cubeIds n label (movedCube step (corner + x) (centre + x))
 
   unfoldable pub runIds : ℕ → List ℕ
   runIds count = gather placedIds (below count)
@@ -52,18 +54,20 @@ module _ (n : ℕ) (samples : List ℤ) (state : List ℕ) (step : Cube) (corner
 pub record InPass (p : Pass) : Type 0 where
   pub sized : Sized (p .sizes)
   pub all : p .n ≤ most
-  pub y-few : p .my ≤ 64
-  pub z-few : p .mz ≤ 64
+  pub y-few : p .my ≤ largest
+  pub z-few : p .mz ≤ largest
   pub known : (z y : ℕ) → z < p .mz → y < p .my
       → KnownRun (p .n) (p .step) (firstCorner (p .sizes) y z) (firstCentre (p .sizes) y z) (p .mx)
 
+-- tables with an entry a point
 pub record Tables (p : Pass) (samples : List ℤ) (state : List ℕ) : Type 0 where
   pub samples-long : length samples ≡ p .n
   pub state-long : length state ≡ p .n
 
-module _ (p : Pass) (samples : List ℤ) (state : List ℕ) where
+-- what is written for a line, for a layer and for the whole pass
+module _ (p : Pass) (label : ℕ → Label) where
   unfoldable pub lineIds : ℕ → ℕ → List ℕ
-  lineIds z y = runIds (p .n) samples state (p .step) (firstCorner (p .sizes) y z) (firstCentre (p .sizes) y z) (p .mx)
+  lineIds z y = runIds (p .n) label (p .step) (firstCorner (p .sizes) y z) (firstCentre (p .sizes) y z) (p .mx)
 
   unfoldable pub layerIds : ℕ → List ℕ
   layerIds z = gather (lineIds z) (below (p .my))
@@ -71,15 +75,19 @@ module _ (p : Pass) (samples : List ℤ) (state : List ℕ) where
   unfoldable pub passIds : List ℕ
   passIds = gather layerIds (below (p .mz))
 
--- at most so many numbers: 48 for a cube, 64 cubes in a line
+-- at most so many numbers
 abbrev pub lineMost : ℕ
-lineMost = 3072
+lineMost = largest * cubeMost
 
 abbrev pub layerMost : ℕ
-layerMost = 196608
+layerMost = largest * lineMost
 
 abbrev pub passMost : ℕ
-passMost = 12582912
+passMost = largest * layerMost
+
+-- no stride of corners is longer: that of a layer
+abbrev pub strideMost : ℕ
+strideMost = (largest + 1) * (largest + 1)
 
 -- the six points by the strides of the corners along the axis, the next one and the one after
 unfoldable pub stepBy : ℕ → ℕ → ℕ → ℕ → ℕ → Cube
@@ -116,5 +124,5 @@ passOf s n along-z =
     }
 
 -- all rows of a block
-unfoldable pub blockIds : Sizes → List ℤ → List ℕ → List ℕ
-blockIds s samples state = gather (λ a. passIds (passOf s (points s) a) samples state) axes
+unfoldable pub blockIds : Sizes → (ℕ → Label) → List ℕ
+blockIds s label = gather (λ a. passIds (passOf s (points s) a) label) axes

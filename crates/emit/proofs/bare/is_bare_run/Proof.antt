@@ -2,7 +2,6 @@
 use Rattle.emit.proofs.BareLaws.{bare-run, run-ends}
 use mathlib.Core.Bool.{false≢true}
 use native.Mathlib.Omega.{arith}
-use borrow.Author.Needs.{needs}
 use borrow.Author.Tests.{not-true}
 use Rattle.emit.proofs.bare.is_bare_run.Statement.{statement}
 use Rattle.emit.proofs.bare.is_bare_run.Tie as tie
@@ -12,89 +11,126 @@ returns c = λ t x h. absurd (omega (arith, h, c .if1 .taken))
 
 add-has-plus : tie.Need-add-has-plus
 add-has-plus c =
-    let a = c .before .before in
-    omega (arith, run-ends _ _ _ _ _ (a .pre .1) (c .before .if1 .left) .low-ends, a .pre .0)
+    let at-some = c .before in
+    omega (arith, run-ends (at-some .before .pre .1) (at-some .if1 .left) .low-ends, at-some .before .pre .0)
 
 has-plus-requires : tie.Need-has-plus-requires
 has-plus-requires c κs =
-    let a = c .before .before in
-    (run-ends _ _ _ _ _ (a .pre .1) (c .before .if1 .left) .low-ends, a .pre .0)
+    let at-some = c .before in
+    (run-ends (at-some .before .pre .1) (at-some .if1 .left) .low-ends, at-some .before .pre .0)
 
 returns-2 : tie.Need-returns-2
 returns-2 c = λ t. absurd (false≢true t)
 
 add-has-plus-2 : tie.Need-add-has-plus-2
 add-has-plus-2 c =
-    let a = c .before .before .before .before .before in
-    omega (arith, run-ends _ _ _ _ _ (a .pre .1) (c .before .before .before .before .if1 .left) .high-ends, a .pre .0)
+    let at-first = c .before .before .before in
+    let at-some = at-first .before in
+    omega (arith, run-ends (at-some .before .pre .1) (at-some .if1 .left) .high-ends, at-some .before .pre .0)
 
 has-plus-requires-2 : tie.Need-has-plus-requires-2
 has-plus-requires-2 c κs =
-    let a = c .before .before .before .before .before in
-    (run-ends _ _ _ _ _ (a .pre .1) (c .before .before .before .before .if1 .left) .high-ends, a .pre .0)
+    let at-first = c .before .before .before in
+    let at-some = at-first .before in
+    (run-ends (at-some .before .pre .1) (at-some .if1 .left) .high-ends, at-some .before .pre .0)
 
 returns-3 : tie.Need-returns-3
 returns-3 c = λ t. absurd (false≢true t)
 
 add-has-plus-3 : tie.Need-add-has-plus-3
 add-has-plus-3 c =
-    let a = c .before .before .before .before .before .before .before .before in
-    omega (arith, run-ends _ _ _ _ _ (a .pre .1) (c .before .before .before .before .before .before .before .if1 .left) .mm-ends, a .pre .0)
+    let at-second = c .before .before .before in
+    let at-first = at-second .before .before .before in
+    let at-some = at-first .before in
+    omega (arith, run-ends (at-some .before .pre .1) (at-some .if1 .left) .mm-ends, at-some .before .pre .0)
 
 has-plus-requires-3 : tie.Need-has-plus-requires-3
 has-plus-requires-3 c κs =
-    let a = c .before .before .before .before .before .before .before .before in
-    (run-ends _ _ _ _ _ (a .pre .1) (c .before .before .before .before .before .before .before .if1 .left) .mm-ends, a .pre .0)
+    let at-second = c .before .before .before in
+    let at-first = at-second .before .before .before in
+    let at-some = at-first .before in
+    (run-ends (at-some .before .pre .1) (at-some .if1 .left) .mm-ends, at-some .before .pre .0)
 
 returns-4 : tie.Need-returns-4
 returns-4 c = λ t. absurd (false≢true t)
 
 add-has-plus-4 : tie.Need-add-has-plus-4
 add-has-plus-4 c =
-    let a = c .before .before .before .before .before .before .before .before .before .before .before in
-    omega (arith, run-ends _ _ _ _ _ (a .pre .1) (c .before .before .before .before .before .before .before .before .before .before .if1 .left) .pm-ends, a .pre .0)
+    let at-third = c .before .before .before in
+    let at-second = at-third .before .before .before in
+    let at-first = at-second .before .before .before in
+    let at-some = at-first .before in
+    omega (arith, run-ends (at-some .before .pre .1) (at-some .if1 .left) .pm-ends, at-some .before .pre .0)
 
 has-plus-requires-4 : tie.Need-has-plus-requires-4
 has-plus-requires-4 c κs =
-    let a = c .before .before .before .before .before .before .before .before .before .before .before in
-    (run-ends _ _ _ _ _ (a .pre .1) (c .before .before .before .before .before .before .before .before .before .before .if1 .left) .pm-ends, a .pre .0)
+    let at-third = c .before .before .before in
+    let at-second = at-third .before .before .before in
+    let at-first = at-second .before .before .before in
+    let at-some = at-first .before in
+    (run-ends (at-some .before .pre .1) (at-some .if1 .left) .pm-ends, at-some .before .pre .0)
 
 returns-5 : tie.Need-returns-5
 returns-5 c = λ t. absurd (false≢true t)
 
 add-has-plus-5 : tie.Need-add-has-plus-5
 add-has-plus-5 c =
-    let a = c .before .before .before .before .before .before .before .before .before .before .before .before .before .before in
-    omega (arith, run-ends _ _ _ _ _ (a .pre .1) (c .before .before .before .before .before .before .before .before .before .before .before .before .before .if1 .left) .pp-ends, a .pre .0)
+    let at-fourth = c .before .before .before in
+    let at-third = at-fourth .before .before .before in
+    let at-second = at-third .before .before .before in
+    let at-first = at-second .before .before .before in
+    let at-some = at-first .before in
+    omega (arith, run-ends (at-some .before .pre .1) (at-some .if1 .left) .pp-ends, at-some .before .pre .0)
 
 has-plus-requires-5 : tie.Need-has-plus-requires-5
 has-plus-requires-5 c κs =
-    let a = c .before .before .before .before .before .before .before .before .before .before .before .before .before .before in
-    (run-ends _ _ _ _ _ (a .pre .1) (c .before .before .before .before .before .before .before .before .before .before .before .before .before .if1 .left) .pp-ends, a .pre .0)
+    let at-fourth = c .before .before .before in
+    let at-third = at-fourth .before .before .before in
+    let at-second = at-third .before .before .before in
+    let at-first = at-second .before .before .before in
+    let at-some = at-first .before in
+    (run-ends (at-some .before .pre .1) (at-some .if1 .left) .pp-ends, at-some .before .pre .0)
 
 returns-6 : tie.Need-returns-6
 returns-6 c = λ t. absurd (false≢true t)
 
 add-has-plus-6 : tie.Need-add-has-plus-6
 add-has-plus-6 c =
-    let a = c .before .before .before .before .before .before .before .before .before .before .before .before .before .before .before .before .before in
-    omega (arith, run-ends _ _ _ _ _ (a .pre .1) (c .before .before .before .before .before .before .before .before .before .before .before .before .before .before .before .before .if1 .left) .mp-ends, a .pre .0)
+    let at-fifth = c .before .before .before in
+    let at-fourth = at-fifth .before .before .before in
+    let at-third = at-fourth .before .before .before in
+    let at-second = at-third .before .before .before in
+    let at-first = at-second .before .before .before in
+    let at-some = at-first .before in
+    omega (arith, run-ends (at-some .before .pre .1) (at-some .if1 .left) .mp-ends, at-some .before .pre .0)
 
 has-plus-requires-6 : tie.Need-has-plus-requires-6
 has-plus-requires-6 c κs =
-    let a = c .before .before .before .before .before .before .before .before .before .before .before .before .before .before .before .before .before in
-    (run-ends _ _ _ _ _ (a .pre .1) (c .before .before .before .before .before .before .before .before .before .before .before .before .before .before .before .before .if1 .left) .mp-ends, a .pre .0)
+    let at-fifth = c .before .before .before in
+    let at-fourth = at-fifth .before .before .before in
+    let at-third = at-fourth .before .before .before in
+    let at-second = at-third .before .before .before in
+    let at-first = at-second .before .before .before in
+    let at-some = at-first .before in
+    (run-ends (at-some .before .pre .1) (at-some .if1 .left) .mp-ends, at-some .before .pre .0)
 
 returns-7 : tie.Need-returns-7
 returns-7 c =
-    let c5 = c .before .before .before in
-    let c4 = c5 .before .before .before in
-    let c3 = c4 .before .before .before in
-    let c2 = c3 .before .before .before in
-    let c1 = c2 .before .before .before in
-    λ t. bare-run _ _ _ _ _ (c1 .has-plus .ensures (c2 .before .before .if2 .left)) (c2 .has-plus2 .ensures (c3 .before .before .if3 .left))
-    (c3 .has-plus3 .ensures (c4 .before .before .if4 .left)) (c4 .has-plus4 .ensures (c5 .before .before .if5 .left))
-    (c5 .has-plus5 .ensures (c .before .before .if6 .left)) (c .has-plus6 .ensures (not-true _ t))
+    let at-fifth = c .before .before .before in
+    let at-fourth = at-fifth .before .before .before in
+    let at-third = at-fourth .before .before .before in
+    let at-second = at-third .before .before .before in
+    let at-first = at-second .before .before .before in
+    λ t.
+    bare-run _ _ _ _ _
+    (record {
+      low-light = at-first .has-plus .ensures (at-second .before .before .if2 .left);
+      high-light = at-second .has-plus2 .ensures (at-third .before .before .if3 .left);
+      mm-light = at-third .has-plus3 .ensures (at-fourth .before .before .if4 .left);
+      pm-light = at-fourth .has-plus4 .ensures (at-fifth .before .before .if5 .left);
+      pp-light = at-fifth .has-plus5 .ensures (c .before .before .if6 .left);
+      mp-light = c .has-plus6 .ensures (not-true _ t);
+    })
 
 pub is-bare-run-spec : {M : Type 1} → statement M
 is-bare-run-spec =

@@ -1,5 +1,5 @@
 -- The four patterns, one by one. Assumes nothing.
-use Rattle.emit.specs.inner.Picks.{sum}
+use Rattle.rows.specs.inner.Picks.{sum}
 use Rattle.emit.specs.inner.Cubes.{cubeCount}
 use Prim.Native.Nat.{_+_}
 use native.Mathlib.Omega.{arith}

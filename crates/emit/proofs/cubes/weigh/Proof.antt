@@ -1,5 +1,7 @@
 -- A moved point weighs nothing, any other what its sample's sign weighs. Assumes nothing.
-use Rattle.emit.proofs.WeightLaws.{weight-moved, weight-still}
+use Rattle.emit.proofs.WeightLaws.{handed-at, weight-moved, weight-still}
+use Rattle.rows.specs.inner.Picks.{weight}
+use mathlib.Core.Path.{ap, _∙_}
 use native.Mathlib.Omega.{arith}
 use borrow.Author.Needs.{needs}
 use Rattle.emit.proofs.cubes.weigh.Statement.{statement}
@@ -21,7 +23,18 @@ weight-of-requires : tie.Need-weight-of-requires
 weight-of-requires c κs = search needs
 
 returns-2 : tie.Need-returns-2
-returns-2 c = (weight-still _ _ _ (c .before .before .if1 .left) (c .before .weight-of-arg .given) (c .weight-of .ensures .0), c .weight-of .ensures .1)
+returns-2 c =
+    let at-arg = c .before in
+    let same = handed-at _ _ (at-arg .weight-of-arg .given) in
+    (weight-still _ _ _ (at-arg .before .if1 .left) (c .weight-of .ensures .0 ∙ ap weight same), c .weight-of .ensures .1)
 
 pub weigh-spec : {M : Type 1} → statement M
-weigh-spec = tie.close (tie.spec shared-slice-read-if1 returns mul-weight-of shared-slice-copy-out-weight-of weight-of-requires returns-2)
+weigh-spec =
+    tie.close
+    (tie.spec
+    shared-slice-read-if1
+    returns
+    mul-weight-of
+    shared-slice-copy-out-weight-of
+    weight-of-requires
+    returns-2)

@@ -25,7 +25,29 @@ weigh-requires-6 c κs = let a = c .before .before .before .before .before .befo
 
 returns : tie.Need-returns
 unfolding cubeWeights
-returns c = (λ i. record { low = c .before .before .before .before .before .weigh .ensures .0 i; high = c .before .before .before .before .weigh2 .ensures .0 i; mm = c .before .before .before .weigh3 .ensures .0 i; pm = c .before .before .weigh4 .ensures .0 i; pp = c .before .weigh5 .ensures .0 i; mp = c .weigh6 .ensures .0 i }, record { low-small = c .before .before .before .before .before .weigh .ensures .1; high-small = c .before .before .before .before .weigh2 .ensures .1; mm-small = c .before .before .before .weigh3 .ensures .1; pm-small = c .before .before .weigh4 .ensures .1; pp-small = c .before .weigh5 .ensures .1; mp-small = c .weigh6 .ensures .1 })
+returns c =
+    let at-pp = c .before in
+    let at-pm = at-pp .before in
+    let at-mm = at-pm .before in
+    let at-high = at-mm .before in
+    let low = at-high .before .weigh .ensures in
+    let high = at-high .weigh2 .ensures in
+    let mm = at-mm .weigh3 .ensures in
+    let pm = at-pm .weigh4 .ensures in
+    let pp = at-pp .weigh5 .ensures in
+    let mp = c .weigh6 .ensures in (
+      λ i. record { low = low .0 i; high = high .0 i; mm = mm .0 i; pm = pm .0 i; pp = pp .0 i; mp = mp .0 i },
+      record { low-small = low .1; high-small = high .1; mm-small = mm .1; pm-small = pm .1; pp-small = pp .1; mp-small = mp .1 },
+    )
 
 pub weigh-cube-spec : {M : Type 1} → statement M
-weigh-cube-spec = tie.close (tie.spec weigh-requires weigh-requires-2 weigh-requires-3 weigh-requires-4 weigh-requires-5 weigh-requires-6 returns)
+weigh-cube-spec =
+    tie.close
+    (tie.spec
+    weigh-requires
+    weigh-requires-2
+    weigh-requires-3
+    weigh-requires-4
+    weigh-requires-5
+    weigh-requires-6
+    returns)

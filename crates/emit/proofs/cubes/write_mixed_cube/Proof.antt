@@ -1,9 +1,9 @@
 -- Into an empty table rows are only counted. Else four tetrahedra, one after the other: what is written so
 -- far is what the edges so far give. Assumes nothing.
 use Rattle.emit.proofs.CubeLaws.{known-as, edge-is, edge-known, edge-small, edge-most, cube-as, cube-room, cube-counted}
-use Rattle.emit.proofs.Written.{same-ids, Written, none-written, more-written, fits-left, sets-none, index-most, kept-long, all-written}
+use Rattle.emit.proofs.Written.{same-ids, Written, none-written, more-written, fits-left, only-counted, index-most, kept-long, all-written}
+use Rattle.rows.specs.inner.Stencils.{tetraMost}
 use Rattle.emit.specs.inner.Cubes.{edgeIds}
-use Rattle.basics.specs.Lists.{gather, below}
 use Prim.Native.Nat.{_-_, _≤_}
 use native.Mathlib.Omega.{arith}
 use borrow.Author.Needs.{needs}
@@ -30,11 +30,11 @@ add-result c = omega (arith, c .count-cube .ensures .1, c .before .before .befor
 
 returns : tie.Need-returns Inv μ
 returns c =
-    let w = c .before .before in
-    let a = w .before .before .before .args in
-    let long = cube-counted (a .n) (a .c) (w .weigh-cube .result) in
-    let same = cube-as (a .n) (a .samples .now) (a .state .now) (a .c) _ (w .weigh-cube .ensures .0) in
-    same-ids _ _ _ _ _ _ same (omega (arith, c .count-cube .ensures .0, long), sets-none _ (gather (edgeIds (a .n) (a .c) (w .weigh-cube .result)) (below 4)) (a .at) (c .before .if1 .taken))
+    let at-weigh = c .before .before in
+    let a = at-weigh .before .before .before .args in
+    let long = cube-counted (a .n) (a .c) (at-weigh .weigh-cube .result) in
+    same-ids (cube-as _ _ _ _ (at-weigh .weigh-cube .ensures .0))
+    (only-counted (c .before .if1 .taken) (omega (arith, c .count-cube .ensures .0, long)))
 
 loop-holds : tie.Need-loop-holds Inv μ
 loop-holds c = (omega arith, none-written _ _ _)
@@ -50,24 +50,31 @@ quarter-weights-requires c κs = search needs
 
 write-tetra-requires : tie.Need-write-tetra-requires Inv μ
 write-tetra-requires c κs =
-    let v = c .before .quarter-weights .ensures in
-    let t = c .before .before .quarter .ensures in
-    let b = c .before .before .before .winding .ensures in
-    let h = c .before .before .before .before .loop-test .taken in
-    let i = c .before .before .before .before .before .loop in
-    let e = c .before .before .before .before .before .before in
-    let w = e .before in
-    let a = w .before .before .before in
-    let room = cube-room _ _ _ _ _ _ _ (w .weigh-cube .ensures .0) (a .pre .1 .1 .1 .1) in (
-      a .pre .0,
+    let at-weights = c .before in
+    let at-quarter = at-weights .before in
+    let at-winding = at-quarter .before in
+    let at-test = at-winding .before in
+    let at-loop = at-test .before in
+    let at-if = at-loop .before in
+    let at-weigh = at-if .before in
+    let at-start = at-weigh .before .before .before in
+    let a = at-start .args in
+    let p = at-start .pre in
+    let i = at-loop .loop in
+    let w = at-weigh .weigh-cube in
+    let b = at-winding .winding .ensures in
+    let t = at-quarter .quarter .ensures in
+    let v = at-weights .quarter-weights .ensures in
+    let h = at-test .loop-test .taken in
+    let room = cube-room _ _ _ _ _ _ (w .ensures .0) (p .1 .1 .1 .1) in (
+      p .0,
       (
-        edge-known (a .args .n) (a .args .c) (w .weigh-cube .result) (i .e) _ _ _ b t v (a .pre .1 .1 .0),
+        edge-known (a .n) (a .c) (w .result) (i .e) _ _ _ b t v (p .1 .1 .0),
         (
-          edge-small (a .args .n) (a .args .c) (w .weigh-cube .result) (i .e) _ _ _ b t v (w .weigh-cube .ensures .1),
+          edge-small (a .n) (a .c) (w .result) (i .e) _ _ _ b t v (w .ensures .1),
           (
-            omega (arith, index-most (i .inv .1) 12 4 (λ j l. edge-most _ _ _ j) (i .inv .0), h, a .pre .1 .1 .1 .0),
-            fits-left (i .inv .1) 4 (edge-is (a .args .n) (a .args .c) (w .weigh-cube .result) (i .e) _ _ _ b t v)
-                h (room .fits (omega (arith, e .if1 .left))),
+            omega (arith, index-most (i .inv .1) tetraMost 4 (λ j l. edge-most _ _ _ j) (i .inv .0), h, p .1 .1 .1 .0),
+            fits-left (i .inv .1) 4 (edge-is (a .n) (a .c) (w .result) (i .e) _ _ _ b t v) h (room .fits (omega (arith, at-if .if1 .left))),
           ),
         ),
       ),
@@ -81,24 +88,28 @@ loop-less c = omega arith
 
 loop-again : tie.Need-loop-again Inv μ
 loop-again c =
-    let r = c .before .before .write-tetra .ensures in
-    let v = c .before .before .before .before in
-    let i = v .before .before .before .before .loop in
-    let w = v .before .before .before .before .before .before in
-    let a = w .before .before .before .args in (
-      omega arith,
-      more-written (i .inv .1)
-          (edge-is (a .n) (a .c) (w .weigh-cube .result) (i .e) _ _ _ (v .before .before .winding .ensures) (v .before .quarter .ensures) (v .quarter-weights .ensures))
-          (r .1) (r .0),
-    )
+    let at-write = c .before .before in
+    let at-weights = at-write .before .before in
+    let at-quarter = at-weights .before in
+    let at-winding = at-quarter .before in
+    let at-loop = at-winding .before .before in
+    let at-weigh = at-loop .before .before in
+    let a = at-weigh .before .before .before .args in
+    let i = at-loop .loop in
+    let b = at-winding .winding .ensures in
+    let t = at-quarter .quarter .ensures in
+    let v = at-weights .quarter-weights .ensures in
+    let edge = edge-is (a .n) (a .c) (at-weigh .weigh-cube .result) (i .e) _ _ _ b t v in
+    (omega arith, more-written (i .inv .1) edge (at-write .write-tetra .ensures))
 
 same-length : tie.Need-same-length Inv μ
 same-length c = kept-long (c .before .loop .inv .1)
 
 returns-2 : tie.Need-returns-2 Inv μ
 returns-2 c =
-    let w = c .before .before .before in
-    same-ids _ _ _ _ _ _ (cube-as _ _ _ _ _ (w .weigh-cube .ensures .0)) (all-written (c .before .loop .inv .1) 4 (omega arith) (omega arith))
+    let at-loop = c .before in
+    let at-weigh = at-loop .before .before in
+    same-ids (cube-as _ _ _ _ (at-weigh .weigh-cube .ensures .0)) (all-written (at-loop .loop .inv .1) 4 (omega arith) (omega arith))
 
 pub write-mixed-cube-spec : {M : Type 1} → statement M
 write-mixed-cube-spec =

@@ -1,9 +1,8 @@
 -- Four rows, one after the other, or counted into an empty table. Assumes nothing.
-use Rattle.emit.proofs.StencilLaws.{solid-long}
+use Rattle.rows.proofs.StencilLaws.{solid-long}
 use Rattle.emit.proofs.CubeLaws.{edge-known, solid-quarter, solid-edge, solid-edge-most, solid-cube-long}
-use Rattle.emit.proofs.Written.{Written, none-written, more-written, room-left, index-most, sets-none, kept-long, all-written}
+use Rattle.emit.proofs.Written.{Written, none-written, more-written, room-left, index-most, only-counted, kept-long, all-written}
 use Rattle.emit.specs.inner.Cubes.{edgeIds, solidCube}
-use Rattle.basics.specs.Lists.{gather, below}
 use Prim.Native.Nat.{_-_, _≤_}
 use native.Mathlib.Omega.{arith}
 use borrow.Author.Needs.{needs}
@@ -21,8 +20,8 @@ add-result c = search needs
 
 returns : tie.Need-returns Inv μ
 returns c =
-    let a = c .before .before in
-    (omega (arith, solid-cube-long (a .args .n) (a .args .c)), sets-none _ (gather (edgeIds (a .args .n) (a .args .c) solidCube) (below 4)) (a .args .at) (c .if1 .taken))
+    let a = c .before .before .args in
+    only-counted (c .if1 .taken) (omega (arith, solid-cube-long (a .n) (a .c)))
 
 loop-holds : tie.Need-loop-holds Inv μ
 loop-holds c = (omega arith, none-written _ _ _)
@@ -35,24 +34,34 @@ quarter-requires c κs = search needs
 
 write-solid-requires : tie.Need-write-solid-requires Inv μ
 write-solid-requires c κs =
-    let a = c .before .before .before .before .before .before .before in
-    let i = c .before .before .before .before .loop in
-    let w = c .before .before .winding in
-    let q = c .before .quarter in
-    let room = room-left (i .inv .1) 4 (solid-edge (a .args .n) (a .args .c) (i .e) _ _ (w .ensures) (q .ensures)) (c .before .before .before .loop-test .taken) (a .pre .1 .1 .1) in
-    let long = solid-long (a .args .n) (w .result) (q .result) in (
-      a .pre .0,
+    let at-quarter = c .before in
+    let at-winding = at-quarter .before in
+    let at-test = at-winding .before in
+    let at-loop = at-test .before in
+    let at-if = at-loop .before in
+    let at-start = at-if .before .before in
+    let a = at-start .args in
+    let p = at-start .pre in
+    let i = at-loop .loop in
+    let w = at-winding .winding .ensures in
+    let q = at-quarter .quarter .ensures in
+    let same-long = kept-long (i .inv .1) in
+    let room = room-left (i .inv .1) 4 (solid-edge (a .n) (a .c) (i .e) _ _ w q) (at-test .loop-test .taken) (p .1 .1 .1) in
+    let long = solid-long (a .n) (at-winding .winding .result) (at-quarter .quarter .result) in (
+      p .0,
       (
-        edge-known (a .args .n) (a .args .c) solidCube (i .e) _ _ _ (w .ensures) (q .ensures) (solid-quarter (a .args .n) (a .args .c) (i .e)) (a .pre .1 .0),
-        omega (arith, long, kept-long (i .inv .1), room .fits (omega (arith, kept-long (i .inv .1), c .before .before .before .before .before .if1 .left))),
+        edge-known (a .n) (a .c) solidCube (i .e) _ _ _ w q (solid-quarter (a .n) (a .c) (i .e)) (p .1 .0),
+        omega (arith, long, same-long, room .fits (omega (arith, same-long, at-if .if1 .left))),
       ),
     )
 
 add-to : tie.Need-add-to Inv μ
 add-to c =
-    let a = c .before .before .before .before .before .before .before .before .before .before in
-    let i = c .before .before .before .before .before .before .before .loop in
-    omega (arith, index-most (i .inv .1) 4 4 (solid-edge-most (a .args .n) (a .args .c)) (i .inv .0), a .pre .1 .1 .0)
+    let at-loop = c .before .before .before .before .before .before .before in
+    let at-start = at-loop .before .before .before in
+    let a = at-start .args in
+    let i = at-loop .loop .inv in
+    omega (arith, index-most (i .1) 4 4 (solid-edge-most (a .n) (a .c)) (i .0), at-start .pre .1 .1 .0)
 
 add-e : tie.Need-add-e Inv μ
 add-e c = omega arith
@@ -62,14 +71,15 @@ loop-less c = omega arith
 
 loop-again : tie.Need-loop-again Inv μ
 loop-again c =
-    let a = c .before .before .before .before .before .before .before .before .before .before in
-    let i = c .before .before .before .before .before .before .before .loop in
-    let w = c .before .before .before .before .before .winding in
-    let q = c .before .before .before .before .quarter in
-    let long = solid-long (a .args .n) (w .result) (q .result) in (
-      omega arith,
-      more-written (i .inv .1) (solid-edge (a .args .n) (a .args .c) (i .e) _ _ (w .ensures) (q .ensures)) (c .before .before .write-solid .ensures) (omega (arith, long)),
-    )
+    let at-write = c .before .before in
+    let at-quarter = at-write .before .before in
+    let at-winding = at-quarter .before in
+    let at-loop = at-winding .before .before in
+    let a = at-loop .before .before .before .args in
+    let i = at-loop .loop in
+    let long = solid-long (a .n) (at-winding .winding .result) (at-quarter .quarter .result) in
+    let edge = solid-edge (a .n) (a .c) (i .e) _ _ (at-winding .winding .ensures) (at-quarter .quarter .ensures) in
+    (omega arith, more-written (i .inv .1) edge (record { now-is = at-write .write-solid .ensures; to-is = omega (arith, long) }))
 
 same-length : tie.Need-same-length Inv μ
 same-length c = kept-long (c .before .loop .inv .1)

@@ -12,10 +12,10 @@ slice-aggregate-write-all : tie.Need-slice-aggregate-write-all
 slice-aggregate-write-all c = search needs
 
 write-all-requires : tie.Need-write-all-requires
-write-all-requires c κs = let a = c .before .before .pre in (a .0, (a .1, record { fits = λ h. absurd (omega arith) }))
+write-all-requires c κs = let p = c .before .before .pre in (p .0, (p .1, record { fits = λ h. absurd (omega arith) }))
 
 returns : tie.Need-returns
-returns c = count-is _ _ _ _ (c .before .write-all .ensures .0)
+returns c = count-is _ _ (c .before .write-all .ensures)
 
 pub count-rows-spec : {M : Type 1} → statement M
 count-rows-spec = tie.close (tie.spec array-borrow-prefix-none slice-aggregate-write-all write-all-requires returns)

@@ -2,6 +2,8 @@
 use Rattle.emit.proofs.PassLaws.{line-most}
 use Rattle.emit.proofs.Written.{Written, none-written, more-written, room-left, index-most, kept-long, all-written}
 use Rattle.emit.specs.inner.Passes.{lineIds, layerIds, lineMost}
+use Rattle.moving.specs.Label.{labels}
+use Rattle.moving.specs.Reading.{labelAfter}
 use mathlib.Core.Path.{refl}
 use Prim.Native.Nat.{_-_, _≤_}
 use native.Mathlib.Omega.{arith}
@@ -10,7 +12,7 @@ use Rattle.emit.proofs.passes.write_layer.Statement.{statement}
 use Rattle.emit.proofs.passes.write_layer.Tie as tie
 
 abbrev Inv : tie.InvT-loop
-Inv rows₀ at samples state p z to₀ y₀ end rows to y = (y ≤ p .my) × Written (lineIds p samples state z) rows₀ at y rows to
+Inv rows₀ at samples state p z to₀ y₀ end rows to y = (y ≤ p .my) × Written (lineIds p (labelAfter (labels samples) state) z) rows₀ at y rows to
 
 abbrev μ : tie.MeasureT-loop
 μ rows₀ at samples state p z to₀ y₀ end rows to y = p .my - y
@@ -20,7 +22,14 @@ loop-holds c = (omega arith, none-written _ _ _)
 
 write-line-requires : tie.Need-write-line-requires Inv μ
 unfolding layerIds
-write-line-requires c κs = let a = c .before .before .before .before .before .pre in let i = c .before .before .loop .inv in let h = c .before .loop-test .taken in (a .0, (a .1 .0, ((h, a .1 .1 .0), (omega (arith, index-most (i .1) lineMost _ (λ j l. line-most _ _ _ (a .0) _ (a .1 .1 .0) j l) (i .0), a .0 .y-few, a .1 .1 .1 .0), room-left (i .1) _ refl h (a .1 .1 .1 .1)))))
+write-line-requires c κs =
+    let at-test = c .before in
+    let at-loop = at-test .before in
+    let p = at-loop .before .before .before .pre in
+    let i = at-loop .loop .inv in
+    let h = at-test .loop-test .taken in
+    let so-far = index-most (i .1) lineMost _ (λ j l. line-most _ _ (p .0) _ (p .1 .1 .0) j l) (i .0) in
+    (p .0, (p .1 .0, ((h, p .1 .1 .0), (omega (arith, so-far, p .0 .y-few, p .1 .1 .1 .0), room-left (i .1) _ refl h (p .1 .1 .1 .1)))))
 
 add-y : tie.Need-add-y Inv μ
 add-y c = omega arith
@@ -29,7 +38,10 @@ loop-less : tie.Need-loop-less Inv μ
 loop-less c = omega arith
 
 loop-again : tie.Need-loop-again Inv μ
-loop-again c = let r = c .before .before .write-line .ensures in (omega arith, more-written (c .before .before .before .before .before .loop .inv .1) refl (r .1) (r .0))
+loop-again c =
+    let at-write = c .before .before in
+    let at-loop = at-write .before .before .before in
+    (omega arith, more-written (at-loop .loop .inv .1) refl (at-write .write-line .ensures))
 
 same-length : tie.Need-same-length Inv μ
 same-length c = kept-long (c .before .loop .inv .1)

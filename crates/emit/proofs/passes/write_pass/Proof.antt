@@ -2,6 +2,8 @@
 use Rattle.emit.proofs.PassLaws.{layer-most}
 use Rattle.emit.proofs.Written.{Written, none-written, more-written, room-left, index-most, kept-long, all-written}
 use Rattle.emit.specs.inner.Passes.{layerIds, passIds, layerMost}
+use Rattle.moving.specs.Label.{labels}
+use Rattle.moving.specs.Reading.{labelAfter}
 use mathlib.Core.Path.{refl}
 use Prim.Native.Nat.{_-_, _≤_}
 use native.Mathlib.Omega.{arith}
@@ -10,7 +12,7 @@ use Rattle.emit.proofs.passes.write_pass.Statement.{statement}
 use Rattle.emit.proofs.passes.write_pass.Tie as tie
 
 abbrev Inv : tie.InvT-loop
-Inv rows₀ at samples state p to₀ z₀ end rows to z = (z ≤ p .mz) × Written (layerIds p samples state) rows₀ at z rows to
+Inv rows₀ at samples state p to₀ z₀ end rows to z = (z ≤ p .mz) × Written (layerIds p (labelAfter (labels samples) state)) rows₀ at z rows to
 
 abbrev μ : tie.MeasureT-loop
 μ rows₀ at samples state p to₀ z₀ end rows to z = p .mz - z
@@ -20,7 +22,14 @@ loop-holds c = (omega arith, none-written _ _ _)
 
 write-layer-requires : tie.Need-write-layer-requires Inv μ
 unfolding passIds
-write-layer-requires c κs = let a = c .before .before .before .before .before .pre in let i = c .before .before .loop .inv in let h = c .before .loop-test .taken in (a .0, (a .1 .0, (h, (omega (arith, index-most (i .1) layerMost _ (λ j l. layer-most _ _ _ (a .0) j l) (i .0), a .0 .z-few, a .1 .1 .0), room-left (i .1) _ refl h (a .1 .1 .1)))))
+write-layer-requires c κs =
+    let at-test = c .before in
+    let at-loop = at-test .before in
+    let p = at-loop .before .before .before .pre in
+    let i = at-loop .loop .inv in
+    let h = at-test .loop-test .taken in
+    let so-far = index-most (i .1) layerMost _ (λ j l. layer-most _ _ (p .0) j l) (i .0) in
+    (p .0, (p .1 .0, (h, (omega (arith, so-far, p .0 .z-few, p .1 .1 .0), room-left (i .1) _ refl h (p .1 .1 .1)))))
 
 add-z : tie.Need-add-z Inv μ
 add-z c = omega arith
@@ -29,7 +38,10 @@ loop-less : tie.Need-loop-less Inv μ
 loop-less c = omega arith
 
 loop-again : tie.Need-loop-again Inv μ
-loop-again c = let r = c .before .before .write-layer .ensures in (omega arith, more-written (c .before .before .before .before .before .loop .inv .1) refl (r .1) (r .0))
+loop-again c =
+    let at-write = c .before .before in
+    let at-loop = at-write .before .before .before in
+    (omega arith, more-written (at-loop .loop .inv .1) refl (at-write .write-layer .ensures))
 
 same-length : tie.Need-same-length Inv μ
 same-length c = kept-long (c .before .loop .inv .1)

@@ -1,6 +1,10 @@
 -- Nothing where no cube has a plus; else cubes, one after the other along x. Assumes nothing.
-use Rattle.emit.proofs.PassLaws.{run-from, run-within, run-known, run-as, placed-is, placed-most, bare-run-written}
-use Rattle.emit.proofs.Written.{Written, none-written, more-written, room-left, index-most, kept-long, all-written}
+use Rattle.emit.proofs.PassLaws.{run-from, run-within, run-known, run-as, placed-is, placed-most, bare-run-ids}
+use Rattle.emit.proofs.CubeLaws.{bare-after}
+use Rattle.emit.proofs.Written.{nothing, Written, none-written, more-written, room-left, index-most, kept-long, all-written}
+use Rattle.moving.specs.Label.{labels}
+use Rattle.moving.specs.Reading.{labelAfter}
+use Rattle.emit.specs.inner.Cubes.{cubeMost}
 use Rattle.emit.specs.inner.Passes.{placedIds, runIds}
 use Prim.Native.Nat.{_-_, _≤_}
 use native.Mathlib.Omega.{arith}
@@ -10,49 +14,54 @@ use Rattle.emit.proofs.passes.write_run.Tie as tie
 
 abbrev Inv : tie.InvT-loop
 Inv rows₀ at n samples state step corner centre count to₀ x₀ rows to x =
-    (x ≤ count) × Written (placedIds n samples state step corner centre) rows₀ at x rows to
+    (x ≤ count) × Written (placedIds n (labelAfter (labels samples) state) step corner centre) rows₀ at x rows to
 
 abbrev μ : tie.MeasureT-loop
 μ rows₀ at n samples state step corner centre count to₀ x₀ rows to x = count - x
 
 is-bare-run-requires : tie.Need-is-bare-run-requires Inv μ
-is-bare-run-requires c κs = let a = c .before .before .pre in (omega (arith, a .0, a .1 .0 .0), run-as _ _ _ _ (a .1 .0 .0) (a .1 .1 .0))
+is-bare-run-requires c κs = let p = c .before .before .pre in (omega (arith, p .0, p .1 .0 .0), run-as (p .1 .0 .0) (p .1 .1 .0))
 
 returns : tie.Need-returns Inv μ
-returns c = bare-run-written _ _ _ _ _ _ _ (c .before .is-bare-run .ensures (c .if1 .taken)) _ _
+returns c =
+    let none = c .before .is-bare-run .ensures (c .if1 .taken) in
+    nothing _ _ (bare-run-ids _ _ _ _ _ _ (λ x h. bare-after _ _ _ (none x h)))
 
 loop-holds : tie.Need-loop-holds Inv μ
 loop-holds c = (omega arith, none-written _ _ _)
 
 add-cube-at : tie.Need-add-cube-at Inv μ
 add-cube-at c =
-    let a = c .before .before .before .before .before .before .pre in
-    omega (arith, run-from _ _ _ _ _ (a .1 .1 .0) _ (c .loop-test .taken), a .0)
+    let p = c .before .before .before .before .before .before .pre in
+    omega (arith, run-from (p .1 .1 .0) (c .loop-test .taken), p .0)
 
 add-cube-at-2 : tie.Need-add-cube-at-2 Inv μ
 add-cube-at-2 c =
-    let a = c .before .before .before .before .before .before .pre in
-    omega (arith, run-from _ _ _ _ _ (a .1 .1 .0) _ (c .loop-test .taken), a .0)
+    let p = c .before .before .before .before .before .before .pre in
+    omega (arith, run-from (p .1 .1 .0) (c .loop-test .taken), p .0)
 
 cube-at-requires : tie.Need-cube-at-requires Inv μ
 cube-at-requires c κs =
-    let a = c .before .before .before .before .before .before .pre in
-    run-within _ _ _ _ _ (a .1 .1 .0) _ (c .loop-test .taken) (a .0)
+    let p = c .before .before .before .before .before .before .pre in
+    run-within (p .1 .1 .0) (c .loop-test .taken) (p .0)
 
 write-cube-requires : tie.Need-write-cube-requires Inv μ
 unfolding runIds
 write-cube-requires c κs =
-    let a = c .before .before .before .before .before .before .before .before .pre in
-    let i = c .before .before .before .loop .inv in
-    let h = c .before .before .loop-test .taken in (
-      a .0,
+    let at-cube = c .before in
+    let at-test = at-cube .before in
+    let at-loop = at-test .before in
+    let p = at-loop .before .before .before .before .before .pre in
+    let i = at-loop .loop .inv in
+    let h = at-test .loop-test .taken in (
+      p .0,
       (
-        a .1 .0,
+        p .1 .0,
         (
-          run-known _ _ _ _ _ (a .1 .1 .0) _ h _ (c .before .cube-at .ensures),
+          run-known (p .1 .1 .0) h (at-cube .cube-at .ensures),
           (
-            omega (arith, index-most (i .1) 48 _ (λ j l. placed-most _ _ _ _ _ _ j) (i .0), a .1 .1 .0 .few, a .1 .1 .1 .0),
-            room-left (i .1) _ (placed-is _ _ _ _ _ _ _ _ (c .before .cube-at .ensures)) h (a .1 .1 .1 .1),
+            omega (arith, index-most (i .1) cubeMost _ (λ j l. placed-most _ _ _ _ _ j) (i .0), p .1 .1 .0 .few, p .1 .1 .1 .0),
+            room-left (i .1) _ (placed-is _ _ _ _ _ _ _ (at-cube .cube-at .ensures)) h (p .1 .1 .1 .1),
           ),
         ),
       ),
@@ -66,9 +75,10 @@ loop-less c = omega arith
 
 loop-again : tie.Need-loop-again Inv μ
 loop-again c =
-    let r = c .before .before .write-cube .ensures in
-    let k = c .before .before .before .before in
-    (omega arith, more-written (k .before .before .loop .inv .1) (placed-is _ _ _ _ _ _ _ _ (k .cube-at .ensures)) (r .1) (r .0))
+    let at-write = c .before .before in
+    let at-cube = at-write .before .before in
+    let at-loop = at-cube .before .before in
+    (omega arith, more-written (at-loop .loop .inv .1) (placed-is _ _ _ _ _ _ _ (at-cube .cube-at .ensures)) (at-write .write-cube .ensures))
 
 same-length : tie.Need-same-length Inv μ
 same-length c = kept-long (c .before .loop .inv .1)

@@ -1,0 +1,6 @@
+pub mod CutTable
+pub mod CornerLaws
+pub mod Sets
+pub mod StencilLaws
+pub mod Patterns
+pub mod Ids
