@@ -14,6 +14,8 @@ use Rattle.lattice.specs.declared.Sizes.{Sizes}
 use Rattle.lattice.specs.Axis.{Axis, along-x, along-y, along-z}
 use Rattle.lattice.specs.Counts.{size, tetrahedra}
 use Rattle.moving.specs.declared.Label.{Label}
+use Rattle.moving.specs.Reading.{labelAfter}
+use Rattle.moving.specs.Moving.{stateOf}
 use Rattle.moving.specs.Block.{Block, readingOf}
 use Rattle.stencil.specs.Tetrahedron.{
   Tetrahedron,
@@ -41,7 +43,7 @@ use Rattle.stencil.specs.Stencil.{
   rowsFor,
 }
 use Rattle.stencil.specs.Id.{idOf}
-use Rattle.geometry.specs.Place.{Place}
+use Rattle.geometry.specs.Place.{Place, placeOf}
 use Rattle.filling.specs.Mesh.{labelsIn, oriented, rowsIn, rowsOver, meshOf}
 use Rattle.filling.specs.Fill.{Outcome, written, fill}
 use Rattle.filling.proofs.Accepted.{passed-all}
@@ -120,7 +122,8 @@ pub long-enough-always : (b : Block) (state rows : List ℕ) → 12 * tetrahedra
 unfolding written
 long-enough-always b state rows h e =
     let w = passed-all b state rows 10 (inr refl) e .is in
-    let most = rows-most (b .sizes) _ _ in
+    let m = readingOf b in
+    let most = rows-most (b .sizes) (labelAfter (m .label) (stateOf m)) (placeOf (b .sizes) (b .cuts) (stateOf m)) in
     let fits = le-leb (4 * length (meshOf (readingOf b))) (length rows) (omega arith) in
     let z : _≡_ {A = ℕ} 0 10 = rw fits at (sym (ap (λ (o : Outcome). o .answer .number) w) ∙ e) in
     omega arith

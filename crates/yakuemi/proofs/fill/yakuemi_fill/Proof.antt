@@ -17,18 +17,13 @@ same-length-2 c = search needs
 
 returns : tie.Need-returns
 returns c =
-    let a = c .before .before .before .before .before .before .before .before .before .before .args in
-    let f = c .before .before .before .before .fill-sized .ensures in
-    let b = blockOf (sizes (a .nx) (a .ny) (a .nz)) (a .samples .now) (a .cuts .now) in (
-      f .answer,
-      (
-        f .state-is,
-        (
-          f .rows-are,
-          conforming b (a .state .now) (a .rows .now) _ _ _ f (λ o. c .before .before .before .before .before .before .before .before .before .shared-slice-known .given o .fits),
-        ),
-      ),
-    )
+    let at-fill = c .before .before .before .before in
+    let at-known = at-fill .before .before .before .before .before in
+    let a = at-known .before .args in
+    let f = at-fill .fill-sized .ensures in
+    let b = blockOf (sizes (a .nx) (a .ny) (a .nz)) (a .samples .now) (a .cuts .now) in
+    let conforms = conforming b (a .state .now) (a .rows .now) _ _ _ f (λ o. at-known .shared-slice-known .given o .fits) in
+    (f .answer, (f .state-is, (f .rows-are, conforms)))
 
 pub yakuemi-fill-spec : {M : Type 1} → statement M
 yakuemi-fill-spec = tie.close (tie.spec fill-sized-requires same-length same-length-2 returns)

@@ -3,7 +3,7 @@ use Prim.Native.Nat.{ℕ}
 use mathlib.Core.Path.{ap, _∙_}
 use mathlib.Core.List.{List}
 use Rattle.moving.specs.Moving.{stateOf}
-use Rattle.moving.specs.Block.{blockOf, readingOf}
+use Rattle.moving.specs.Block.{blockOf, readingOf, Bytes}
 use Rattle.moving.proofs.Moved.{state-reached}
 use Rattle.filling.specs.Fill.{overwritten}
 use Rattle.filling.proofs.Fits.{accepted-fits}
@@ -27,7 +27,17 @@ same-length : tie.Need-same-length
 same-length c = search needs
 
 returns : tie.Need-returns
-returns c = ?
+returns c =
+    let at-count = c .before .before in
+    let at-warp = at-count .before .before .before .before in
+    let at-start = at-warp .before .before .before .before .before in
+    let a = at-start .args in
+    let b = blockOf (a .s) (a .samples .now) (a .cuts .now) in
+    let moved = at-warp .warp .ensures in
+    let counted = at-count .count-rows .ensures ∙ mesh-length (readingOf b) _ (moved .0) in
+    rw (c .answered .ensures)
+    (too-short b (a .state .now) (a .rows .now) (at-start .pre .0) (at-start .pre .1) _ _ _ counted (moved .1) (moved .0)
+    (c .before .if1 .taken))
 
 write-rows-requires : tie.Need-write-rows-requires
 write-rows-requires c κs = search needs
@@ -42,7 +52,25 @@ same-length-3 : tie.Need-same-length-3
 same-length-3 c = search needs
 
 returns-2 : tie.Need-returns-2
-returns-2 c = ?
+returns-2 c =
+    let at-write = c .before .before .before in
+    let at-test = at-write .before .before .before in
+    let at-count = at-test .before in
+    let at-warp = at-count .before .before .before .before in
+    let at-known = at-warp .before .before .before .before in
+    let at-start = at-known .before in
+    let a = at-start .args in
+    let b = blockOf (a .s) (a .samples .now) (a .cuts .now) in
+    let m = readingOf b in
+    let moved = at-warp .warp .ensures in
+    let counted = at-count .count-rows .ensures ∙ mesh-length m _ (moved .0) in
+    let bytes : Bytes (a .cuts .now) = λ o. at-known .shared-slice-known .given o .fits in
+    let is-sound = sound (stateOf m) (accepted-fits b (at-start .pre .0)) bytes limit-reach (state-reached m) in
+    let rows = mesh-table m _ (moved .0) is-sound in
+    let new = at-write .write-rows .ensures ∙ ap (λ (l : List ℕ). overwritten l (a .rows .now)) rows in
+    rw (c .answered2 .ensures)
+    (long-enough b (a .state .now) (a .rows .now) (at-start .pre .0) (at-start .pre .1) _ _ _ counted (moved .1) (moved .0) _ new
+    (at-test .if1 .left))
 
 pub fill-accepted-spec : {M : Type 1} → statement M
 fill-accepted-spec =
