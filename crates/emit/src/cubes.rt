@@ -7,6 +7,7 @@ use ground::signs;
 use ground::volume;
 use rows::Tetra;
 use rows::Weights;
+use rows::picks;
 use rows::stencils;
 use rows::writing;
 ghost use mathlib.Core.Path.{_≡_};
@@ -18,7 +19,7 @@ ghost use Rattle.moving.specs.Reading.{labelAfter};
 ghost use Rattle.stencil.proofs.Sign.{winds};
 ghost use Rattle.ground.specs.inner.Places.{placeAt, InBox, placeBox};
 ghost use Rattle.rows.specs.inner.Corners.{most, quarterAt};
-ghost use Rattle.rows.specs.inner.Picks.{weight};
+ghost use Rattle.rows.specs.inner.Picks.{plusWeight, weight};
 ghost use Rattle.rows.specs.inner.Stencils.{rowsMost, Wrote};
 ghost use Rattle.emit.specs.inner.Cubes.{cubeWeights, windsWith, quarterOf, quarterWeights, KnownCube, SmallCube, plusAt, plusCount};
 ghost use Rattle.emit.specs.inner.Cubes.{unmoved, solidCube, cubeCount, edgeIds, cubeIds, cubeMost, Room};
@@ -26,25 +27,25 @@ ghost use Rattle.emit.specs.inner.Cubes.{unmoved, solidCube, cubeCount, 
 // The weight of a sample's sign.
 fn weight_of(x: i16) -> usize
     ensures { λ r. ⌜ r ≡ weight (labelOf x) ⌝ }
-    ensures { λ r. ⌜ r ≤ 5 ⌝ }
+    ensures { λ r. ⌜ r ≤ plusWeight ⌝ }
 {
     if signs::is_plus(x) {
-        return 5;
+        return picks::PLUS;
     }
     if signs::is_minus(x) {
-        return 1;
+        return picks::MINUS;
     }
-    0
+    picks::ZERO
 }
 
 // The weight of a point's label: zero once it has moved.
 fn weigh(samples: &[i16], state: &[u8], p: usize) -> usize
     requires { ⌜ (p < length (now samples)) × (p < length (now state)) ⌝ }
     ensures { λ r. ⌜ r ≡ weight (labelAfter (labels (now (samples .entry))) (now (state .entry)) p) ⌝ }
-    ensures { λ r. ⌜ r ≤ 5 ⌝ }
+    ensures { λ r. ⌜ r ≤ plusWeight ⌝ }
 {
     if state[p] != 0 {
-        return 0;
+        return picks::ZERO;
     }
     weight_of(samples[p])
 }

@@ -19,7 +19,7 @@ use Rattle.stencil.proofs.Sign.{winds}
 use Rattle.rows.specs.declared.Tetra.{Tetra}
 use Rattle.rows.specs.declared.Weights.{Weights}
 use Rattle.rows.specs.inner.Corners.{quarterAt}
-use Rattle.rows.specs.inner.Picks.{weight, sum}
+use Rattle.rows.specs.inner.Picks.{plusWeight, weight, sum}
 use Rattle.rows.specs.inner.Stencils.{rowCount, tetraIds, tetraMost}
 use Rattle.emit.specs.declared.Cube.{Cube}
 use Rattle.emit.specs.declared.CubeWeights.{CubeWeights}
@@ -66,12 +66,12 @@ pub record KnownCube (n : ℕ) (c : Cube) : Type 0 where
 
 -- weights of labels
 pub record SmallCube (w : CubeWeights) : Type 0 where
-  pub low-small : w .low ≤ 5
-  pub high-small : w .high ≤ 5
-  pub mm-small : w .mm ≤ 5
-  pub pm-small : w .pm ≤ 5
-  pub pp-small : w .pp ≤ 5
-  pub mp-small : w .mp ≤ 5
+  pub low-small : w .low ≤ plusWeight
+  pub high-small : w .high ≤ plusWeight
+  pub mm-small : w .mm ≤ plusWeight
+  pub pm-small : w .pm ≤ plusWeight
+  pub pp-small : w .pp ≤ plusWeight
+  pub mp-small : w .mp ≤ plusWeight
 
 -- f at the six points, added up
 abbrev pub total : (ℕ → ℕ) → Cube → ℕ
@@ -99,7 +99,8 @@ unmoved state c = eqb (total (λ p. getD state p 0) c) 0
 
 -- the weights of six plus points
 abbrev pub solidCube : CubeWeights
-solidCube = record { low = 5; high = 5; mm = 5; pm = 5; pp = 5; mp = 5 }
+solidCube =
+    record { low = plusWeight; high = plusWeight; mm = plusWeight; pm = plusWeight; pp = plusWeight; mp = plusWeight }
 
 -- what is written for one of the four tetrahedra, by the weights of the six points
 unfoldable pub edgeIds : ℕ → Cube → CubeWeights → ℕ → List ℕ
