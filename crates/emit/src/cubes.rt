@@ -75,7 +75,7 @@ fn weigh_cube(samples: &[i16], state: &[u8], c: Cube) -> CubeWeights
 
 // The tetrahedron of an edge of the turn, its corners ascending.
 fn quarter(c: Cube, e: usize) -> Tetra
-    ensures { λ r. ⌜ r ≡ quarterOf c e ⌝ }
+    ensures { λ r. ⌜ r ≡ quarterOf c (quarterAt e) ⌝ }
 {
     match e {
         0 => Tetra {
@@ -115,7 +115,7 @@ fn quarter(c: Cube, e: usize) -> Tetra
 
 // The weights of its four corners.
 fn quarter_weights(w: CubeWeights, e: usize) -> Weights
-    ensures { λ r. ⌜ r ≡ quarterWeights w e ⌝ }
+    ensures { λ r. ⌜ r ≡ quarterWeights w (quarterAt e) ⌝ }
 {
     match e {
         0 => Weights {

@@ -7,7 +7,9 @@ ghost use Rattle.rows.specs.inner.Picks.{picked, chosen, ordered, invers
 
 // The weights of labels. Those of four corners add up to the pattern's number.
 pub const PLUS: usize = 5;
+
 pub const MINUS: usize = 1;
+
 pub const ZERO: usize = 0;
 
 fn pick(taken: bool, v: usize, rest: Order) -> Order
