@@ -1,12 +1,12 @@
 -- The six points of a cube by strides are the corners of its four tetrahedra, and points of the block. Assumes nothing.
-use Prim.Native.Nat.{ℕ, _+_, _*_, _-_, _≤_, _<_, min, max}
+use Prim.Native.Nat.{ℕ, _+_, _*_, _-_, _≤_, _<_}
 use native.Mathlib.Omega.{arith}
 use native.Mathlib.Nat.{mul-add, mul-comm, mul-assoc}
 use mathlib.Core.Path.{_≡_, refl, sym, ap, _∙_}
 use mathlib.Core.Bool.{Bool}
 use lib.Dec.{T, eqb, eqb→eq}
 use Rattle.basics.proofs.Test.{_&_}
-use Rattle.basics.proofs.Finite.{Finite, each, each-use}
+use Rattle.basics.proofs.Finite.{each, each-use}
 use Rattle.lattice.specs.declared.Sizes.{Sizes}
 use Rattle.lattice.specs.declared.Kind.{Kind}
 use Rattle.lattice.specs.declared.Kind.the-variants.{Corner, Centre}
@@ -18,7 +18,7 @@ use Rattle.lattice.proofs.Bounds.{points-small}
 use Rattle.lattice.proofs.Number.{number-lt}
 use Rattle.stencil.specs.Tetrahedron.{Tetrahedron, Vertex, v0, v1, v2, v3, Quarter, q0, q1, q2, q3, kind, unit, around, offset, corner, cornerNumber}
 use Rattle.stencil.proofs.Corners.{theVertices, theQuarters}
-use Rattle.stencil.proofs.Valid.{Valid, corner-inside}
+use Rattle.stencil.proofs.Valid.{corner-inside}
 use Rattle.emit.specs.declared.Cube.{Cube}
 use Rattle.rows.specs.inner.Corners.{cornerOf}
 use Rattle.emit.specs.inner.Cubes.{faceAt, lowEnd, highEnd, KnownCube, quarterOf}

@@ -145,6 +145,16 @@ fn quarter_weights(w: CubeWeights, e: usize) -> Weights
     }
 }
 
+// Where the points of a cube at 0 and the next one stand along an axis, 256 to a doubled coordinate:
+// the lowest corner, the centre, the shared face and the next cube's centre.
+const CORNER: i64 = 0;
+
+const CENTRE: i64 = 256;
+
+const FACE: i64 = 512;
+
+const NEXT: i64 = 768;
+
 // A tetrahedron of two corners of the shared face and the two centres, in this order, winds
 // positively: a signed triple product, in places seen along the axis, the next one and the one
 // after, from a cube at 0.
@@ -153,14 +163,14 @@ fn winds_with(first: Place, second: Place) -> bool
     ensures { λ r. ⌜ r ≡ windsWith (placeAt first) (placeAt second) ⌝ }
 {
     let lower = Place {
-        x: 256,
-        y: 256,
-        z: 256,
+        x: CENTRE,
+        y: CENTRE,
+        z: CENTRE,
     };
     let upper = Place {
-        x: 768,
-        y: 256,
-        z: 256,
+        x: NEXT,
+        y: CENTRE,
+        z: CENTRE,
     };
     let v = volume::six_volume(first, second, lower, upper);
     0 < v
@@ -172,21 +182,25 @@ fn winding(e: usize) -> bool
     requires { ⌜ e < 4 ⌝ }
     ensures { λ r. ⌜ r ≡ winds (quarterAt e) ⌝ }
 {
-    let mm = Place { x: 512, y: 0, z: 0 };
+    let mm = Place {
+        x: FACE,
+        y: CORNER,
+        z: CORNER,
+    };
     let pm = Place {
-        x: 512,
-        y: 512,
-        z: 0,
+        x: FACE,
+        y: FACE,
+        z: CORNER,
     };
     let pp = Place {
-        x: 512,
-        y: 512,
-        z: 512,
+        x: FACE,
+        y: FACE,
+        z: FACE,
     };
     let mp = Place {
-        x: 512,
-        y: 0,
-        z: 512,
+        x: FACE,
+        y: CORNER,
+        z: FACE,
     };
     match e {
         0 => winds_with(mm, pm),

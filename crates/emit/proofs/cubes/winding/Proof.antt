@@ -3,7 +3,6 @@ use Rattle.emit.proofs.CubeLaws.{last-edge}
 use Rattle.stencil.proofs.Sign.{winds}
 use Rattle.geometry.specs.Volume.{sixVolume, triple, dot, cross}
 use mathlib.Core.Path.{ap, _∙_}
-use native.Mathlib.Omega.{arith}
 use borrow.Author.Needs.{needs}
 use Rattle.emit.proofs.cubes.winding.Statement.{statement}
 use Rattle.emit.proofs.cubes.winding.Tie as tie

@@ -3,7 +3,6 @@ use Rattle.emit.proofs.PassLaws.{layer-small, last-axis, along-x-is, al
 use mathlib.Core.Path.{_∙_}
 use Rattle.lattice.proofs.Bounds.{small}
 use native.Mathlib.Omega.{arith}
-use borrow.Author.Needs.{needs}
 use Rattle.emit.proofs.passes.pass_along.Statement.{statement}
 use Rattle.emit.proofs.passes.pass_along.Tie as tie
 
