@@ -14,48 +14,27 @@ use Rattle.moving.specs.Label.{isPlus}
 use Rattle.moving.specs.Reading.{labelAfter}
 use Rattle.moving.proofs.Bytes.{same-or, label-still, label-moved}
 use Rattle.stencil.specs.Stencil.{stencilOf}
-use Rattle.stencil.specs.Tetrahedron.{q3}
+use Rattle.stencil.specs.Tetrahedron.{Quarter, q0, q1, q2, q3}
 use Rattle.stencil.specs.inner.Sign.{winds}
 use Rattle.rows.specs.declared.Tetra.{Tetra}
 use Rattle.rows.specs.declared.Weights.{Weights}
-use Rattle.rows.specs.inner.Corners.{most, Tetrahedral, quarterAt}
-use Rattle.rows.specs.inner.Picks.{weight, sum}
+use Rattle.rows.specs.inner.Corners.{most, quarterAt}
+use Rattle.rows.specs.inner.Picks.{plusWeight, weight, sum}
 use Rattle.rows.specs.inner.Stencils.{KnownTetra, Small, rowCount, tetraIds, tetraMost, solid}
 use Rattle.rows.proofs.StencilLaws.{tetra-long, tetra-most, empty, solid-long}
 use Rattle.emit.specs.declared.Cube.{Cube}
 use Rattle.emit.specs.declared.CubeWeights.{CubeWeights}
-use Rattle.emit.specs.inner.Cubes.{quarterOf, quarterWeights, KnownCube, SmallCube, counted, total, plusAt, plusCount, unmoved}
+use Rattle.emit.specs.inner.Cubes.{faceAt, faceWeight, lowEnd, highEnd, edgeNumber, quarterOf, quarterWeights}
+use Rattle.emit.specs.inner.Cubes.{KnownCube, SmallCube, counted, total, plusAt, plusCount, unmoved}
 use Rattle.emit.specs.inner.Cubes.{solidCube, cubeCount, cubeWeights, edgeIds, cubeIds, cubeMost, Room}
 use Rattle.emit.proofs.Written.{bounded}
 
 -- the last edge, for any number that is none of the others
-module _ (e : ℕ) (p : e ≡ 0 → ⊥) (q : e ≡ 1 → ⊥) (r : e ≡ 2 → ⊥) where
-  pub last-quarter : (c : Cube) → quarterOf c 3 ≡ quarterOf c e
-  last-quarter c = go e p q r
-    where
-      go : (e : ℕ) → (e ≡ 0 → ⊥) → (e ≡ 1 → ⊥) → (e ≡ 2 → ⊥) → quarterOf c 3 ≡ quarterOf c e
-      go zero p q r = absurd (p refl)
-      go (suc zero) p q r = absurd (q refl)
-      go (suc (suc zero)) p q r = absurd (r refl)
-      go (suc (suc (suc e))) p q r = refl
-
-  pub last-weights : (w : CubeWeights) → quarterWeights w 3 ≡ quarterWeights w e
-  last-weights w = go e p q r
-    where
-      go : (e : ℕ) → (e ≡ 0 → ⊥) → (e ≡ 1 → ⊥) → (e ≡ 2 → ⊥) → quarterWeights w 3 ≡ quarterWeights w e
-      go zero p q r = absurd (p refl)
-      go (suc zero) p q r = absurd (q refl)
-      go (suc (suc zero)) p q r = absurd (r refl)
-      go (suc (suc (suc e))) p q r = refl
-
-  pub last-winds : winds q3 ≡ winds (quarterAt e)
-  last-winds = go e p q r
-    where
-      go : (e : ℕ) → (e ≡ 0 → ⊥) → (e ≡ 1 → ⊥) → (e ≡ 2 → ⊥) → winds q3 ≡ winds (quarterAt e)
-      go zero p q r = absurd (p refl)
-      go (suc zero) p q r = absurd (q refl)
-      go (suc (suc zero)) p q r = absurd (r refl)
-      go (suc (suc (suc e))) p q r = refl
+pub last-edge : (e : ℕ) → (e ≡ 0 → ⊥) → (e ≡ 1 → ⊥) → (e ≡ 2 → ⊥) → q3 ≡ quarterAt e
+last-edge zero p q r = absurd (p refl)
+last-edge (suc zero) p q r = absurd (q refl)
+last-edge (suc (suc zero)) p q r = absurd (r refl)
+last-edge (suc (suc (suc e))) p q r = refl
 
 pub known-as : {m n : ℕ} {c : Cube} → m ≡ n → KnownCube n c → KnownCube m c
 known-as e k =
@@ -81,42 +60,59 @@ known-within e k =
       mp-in = omega arith;
     }
 
-quarter-known : (n : ℕ) (c : Cube) → KnownCube n c → (e : ℕ) → KnownTetra n (quarterOf c e)
-quarter-known n c k zero =
-    let kind : Tetrahedral (quarterOf c 0) = record { axis-in = k .axis-in; edge-in = omega arith } in
-    record { kind = kind; a-in = k .mm-in; b-in = k .pm-in; c-in = k .low-in; d-in = k .high-in }
-quarter-known n c k (suc zero) =
-    let kind : Tetrahedral (quarterOf c 1) = record { axis-in = k .axis-in; edge-in = omega arith } in
-    record { kind = kind; a-in = k .pm-in; b-in = k .pp-in; c-in = k .low-in; d-in = k .high-in }
-quarter-known n c k (suc (suc zero)) =
-    let kind : Tetrahedral (quarterOf c 2) = record { axis-in = k .axis-in; edge-in = omega arith } in
-    record { kind = kind; a-in = k .mp-in; b-in = k .pp-in; c-in = k .low-in; d-in = k .high-in }
-quarter-known n c k (suc (suc (suc e))) =
-    let kind : Tetrahedral (quarterOf c 3) = record { axis-in = k .axis-in; edge-in = omega arith } in
-    record { kind = kind; a-in = k .mm-in; b-in = k .mp-in; c-in = k .low-in; d-in = k .high-in }
+face-in : {n : ℕ} {c : Cube} → KnownCube n c → (q : Quarter) → faceAt c q < n
+face-in k q0 = k .mm-in
+face-in k q1 = k .pm-in
+face-in k q2 = k .pp-in
+face-in k q3 = k .mp-in
 
-quarter-small : (w : CubeWeights) → SmallCube w → (e : ℕ) → Small (quarterWeights w e)
-quarter-small w k zero = record { a-small = k .mm-small; b-small = k .pm-small; c-small = k .low-small; d-small = k .high-small }
-quarter-small w k (suc zero) = record { a-small = k .pm-small; b-small = k .pp-small; c-small = k .low-small; d-small = k .high-small }
-quarter-small w k (suc (suc zero)) = record { a-small = k .mp-small; b-small = k .pp-small; c-small = k .low-small; d-small = k .high-small }
-quarter-small w k (suc (suc (suc e))) = record { a-small = k .mm-small; b-small = k .mp-small; c-small = k .low-small; d-small = k .high-small }
+edge-few : (q : Quarter) → edgeNumber q < 4
+edge-few q0 = omega arith
+edge-few q1 = omega arith
+edge-few q2 = omega arith
+edge-few q3 = omega arith
+
+quarter-known : {n : ℕ} {c : Cube} → KnownCube n c → (q : Quarter) → KnownTetra n (quarterOf c q)
+quarter-known k q =
+    record {
+      kind = record { axis-in = k .axis-in; edge-in = edge-few q };
+      a-in = face-in k (lowEnd q);
+      b-in = face-in k (highEnd q);
+      c-in = k .low-in;
+      d-in = k .high-in;
+    }
+
+face-small : {w : CubeWeights} → SmallCube w → (q : Quarter) → faceWeight w q ≤ plusWeight
+face-small k q0 = k .mm-small
+face-small k q1 = k .pm-small
+face-small k q2 = k .pp-small
+face-small k q3 = k .mp-small
+
+quarter-small : {w : CubeWeights} → SmallCube w → (q : Quarter) → Small (quarterWeights w q)
+quarter-small k q =
+    record { a-small = face-small k (lowEnd q); b-small = face-small k (highEnd q); c-small = k .low-small; d-small = k .high-small }
 
 -- one edge of the turn, as the code has it
-module _ (n : ℕ) (c : Cube) (w : CubeWeights) (e : ℕ) (wound : Bool) (t : Tetra) (v : Weights) (p : wound ≡ winds (quarterAt e))
-    (q : t ≡ quarterOf c e) (r : v ≡ quarterWeights w e) where
+module _ (n : ℕ) (c : Cube) (w : CubeWeights) (e : ℕ) {wound : Bool} {t : Tetra} {v : Weights} (p : wound ≡ winds (quarterAt e))
+    (q : t ≡ quarterOf c (quarterAt e)) (r : v ≡ quarterWeights w (quarterAt e)) where
   pub edge-is : tetraIds n wound t v ≡ edgeIds n c w e
   unfolding edgeIds
   edge-is = λ i. tetraIds n (p i) (q i) (r i)
 
   pub edge-known : KnownCube n c → KnownTetra n t
-  edge-known k = rw q (quarter-known n c k e)
+  edge-known k = rw q (quarter-known k (quarterAt e))
 
   pub edge-small : SmallCube w → Small v
-  edge-small k = rw r (quarter-small w k e)
+  edge-small k = rw r (quarter-small k (quarterAt e))
+
+edge-long : (n : ℕ) (c : Cube) (w : CubeWeights) (e : ℕ)
+    → length (edgeIds n c w e) ≡ 4 * rowCount (stencilOf (sum (quarterWeights w (quarterAt e))))
+unfolding edgeIds
+edge-long n c w e = let q = quarterAt e in tetra-long n (winds q) (quarterOf c q) (quarterWeights w q)
 
 pub edge-most : (n : ℕ) (c : Cube) (w : CubeWeights) (e : ℕ) → length (edgeIds n c w e) ≤ tetraMost
 unfolding edgeIds
-edge-most n c w e = tetra-most n (winds (quarterAt e)) (quarterOf c e) (quarterWeights w e)
+edge-most n c w e = let q = quarterAt e in tetra-most n (winds q) (quarterOf c q) (quarterWeights w q)
 
 module _ (n : ℕ) (label : ℕ → Label) (c : Cube) where
   pub cube-as : (w : CubeWeights) → w ≡ cubeWeights label c → gather (edgeIds n c w) (below 4) ≡ cubeIds n label c
@@ -135,47 +131,39 @@ module _ (n : ℕ) (label : ℕ → Label) (c : Cube) where
 
 -- the rows of a cube, only counted: four numbers each
 pub cube-counted : (n : ℕ) (c : Cube) (w : CubeWeights) → 4 * cubeCount w ≡ length (gather (edgeIds n c w) (below 4))
-unfolding cubeCount edgeIds gather from
+unfolding cubeCount gather from
 cube-counted n c w =
     omega (
       arith,
-      edge-long 0,
-      edge-long 1,
-      edge-long 2,
-      edge-long 3,
-      appended (ids 0) (ids 1 ++ (ids 2 ++ (ids 3 ++ []))),
-      appended (ids 1) (ids 2 ++ (ids 3 ++ [])),
-      appended (ids 2) (ids 3 ++ []),
-      appended (ids 3) [],
+      edge-long n c w 0,
+      edge-long n c w 1,
+      edge-long n c w 2,
+      edge-long n c w 3,
+      length-append (ids 0) (ids 1 ++ (ids 2 ++ (ids 3 ++ []))),
+      length-append (ids 1) (ids 2 ++ (ids 3 ++ [])),
+      length-append (ids 2) (ids 3 ++ []),
+      length-append (ids 3) [],
     )
   where
     ids : ℕ → List ℕ
-    ids e = tetraIds n (winds (quarterAt e)) (quarterOf c e) (quarterWeights w e)
-
-    edge-long : (e : ℕ) → length (ids e) ≡ 4 * rowCount (stencilOf (sum (quarterWeights w e)))
-    edge-long e = tetra-long n (winds (quarterAt e)) (quarterOf c e) (quarterWeights w e)
-
-    appended : (l m : List ℕ) → length (l ++ m) ≡ length l + length m
-    appended l m = length-append l m
+    ids e = edgeIds n c w e
 
 -- a cube of six plus points
+pub solid-quarter : (q : Quarter) → solid ≡ quarterWeights solidCube q
+solid-quarter q0 = refl
+solid-quarter q1 = refl
+solid-quarter q2 = refl
+solid-quarter q3 = refl
+
 module _ (n : ℕ) (c : Cube) where
-  pub solid-quarter : (e : ℕ) → solid ≡ quarterWeights solidCube e
-  solid-quarter zero = refl
-  solid-quarter (suc zero) = refl
-  solid-quarter (suc (suc zero)) = refl
-  solid-quarter (suc (suc (suc e))) = refl
-
-  pub solid-edge : (e : ℕ) (wound : Bool) (t : Tetra) → wound ≡ winds (quarterAt e) → t ≡ quarterOf c e
+  pub solid-edge : (e : ℕ) {wound : Bool} {t : Tetra} → wound ≡ winds (quarterAt e) → t ≡ quarterOf c (quarterAt e)
       → tetraIds n wound t solid ≡ edgeIds n c solidCube e
-  solid-edge e wound t p q = edge-is n c solidCube e wound t solid p q (solid-quarter e)
+  solid-edge e p q = edge-is n c solidCube e p q (solid-quarter (quarterAt e))
 
-  solid-edge-long : (e : ℕ) → length (edgeIds n c solidCube e) ≡ 4
-  solid-edge-long e =
-      ap length (sym (solid-edge e (winds (quarterAt e)) (quarterOf c e) refl refl)) ∙ solid-long n (winds (quarterAt e)) (quarterOf c e)
-
-  pub solid-edge-most : (j : ℕ) → j < 4 → length (edgeIds n c solidCube j) ≤ 4
-  solid-edge-most j h = omega (arith, solid-edge-long j)
+  pub solid-edge-most : (e : ℕ) → e < 4 → length (edgeIds n c solidCube e) ≤ 4
+  solid-edge-most e h =
+      let long = solid-long n (winds (quarterAt e)) (quarterOf c (quarterAt e)) in
+      omega (arith, long, ap length (solid-edge e refl refl))
 
   pub solid-cube-long : length (gather (edgeIds n c solidCube) (below 4)) ≡ 16
   unfolding cubeCount rowCount stencilOf sum
@@ -260,18 +248,16 @@ module _ (label : ℕ → Label) (c : Cube) where
     unfolding plusCount plusAt
     light = each-of (λ p. plain (label p)) (all-zero (plusAt label) c none)
 
-    bare-sum : (e : ℕ) → sum (quarterWeights (cubeWeights label c) e) ≤ 4
+    bare-sum : (q : Quarter) → sum (quarterWeights (cubeWeights label c) q) ≤ 4
     unfolding sum cubeWeights
-    bare-sum zero = let l = light in omega arith
-    bare-sum (suc zero) = let l = light in omega arith
-    bare-sum (suc (suc zero)) = let l = light in omega arith
-    bare-sum (suc (suc (suc e))) = let l = light in omega arith
+    bare-sum q0 = let l = light in omega arith
+    bare-sum q1 = let l = light in omega arith
+    bare-sum q2 = let l = light in omega arith
+    bare-sum q3 = let l = light in omega arith
 
     bare-edge : (e : ℕ) → edgeIds n c (cubeWeights label c) e ≡ []
-    unfolding edgeIds
     bare-edge e =
-        let long = tetra-long n (winds (quarterAt e)) (quarterOf c e) (quarterWeights (cubeWeights label c) e) in
-        empty _ (long ∙ ap (λ (m : ℕ). 4 * m) (no-row _ (bare-sum e)))
+        empty _ (edge-long n c (cubeWeights label c) e ∙ ap (λ (m : ℕ). 4 * m) (no-row _ (bare-sum (quarterAt e))))
 
     pub bare-cube : cubeIds n label c ≡ []
     unfolding cubeIds gather from

@@ -1,12 +1,12 @@
 -- The six points of a cube by strides are the corners of its four tetrahedra, and points of the block. Assumes nothing.
-use Prim.Native.Nat.{ℕ, _+_, _*_, _-_, _≤_, _<_, min, max}
+use Prim.Native.Nat.{ℕ, _+_, _*_, _-_, _≤_, _<_}
 use native.Mathlib.Omega.{arith}
 use native.Mathlib.Nat.{mul-add, mul-comm, mul-assoc}
 use mathlib.Core.Path.{_≡_, refl, sym, ap, _∙_}
 use mathlib.Core.Bool.{Bool}
 use lib.Dec.{T, eqb, eqb→eq}
 use Rattle.basics.proofs.Test.{_&_}
-use Rattle.basics.proofs.Finite.{Finite, each, each-use}
+use Rattle.basics.proofs.Finite.{each, each-use}
 use Rattle.lattice.specs.declared.Sizes.{Sizes}
 use Rattle.lattice.specs.declared.Kind.{Kind}
 use Rattle.lattice.specs.declared.Kind.the-variants.{Corner, Centre}
@@ -18,10 +18,10 @@ use Rattle.lattice.proofs.Bounds.{points-small}
 use Rattle.lattice.proofs.Number.{number-lt}
 use Rattle.stencil.specs.Tetrahedron.{Tetrahedron, Vertex, v0, v1, v2, v3, Quarter, q0, q1, q2, q3, kind, unit, around, offset, corner, cornerNumber}
 use Rattle.stencil.proofs.Corners.{theVertices, theQuarters}
-use Rattle.stencil.proofs.Valid.{Valid, corner-inside}
+use Rattle.stencil.proofs.Valid.{corner-inside}
 use Rattle.emit.specs.declared.Cube.{Cube}
 use Rattle.rows.specs.inner.Corners.{cornerOf}
-use Rattle.emit.specs.inner.Cubes.{KnownCube, quarterOf}
+use Rattle.emit.specs.inner.Cubes.{faceAt, lowEnd, highEnd, KnownCube, quarterOf}
 use Rattle.emit.specs.inner.Passes.{movedCube, firstCorner, firstCentre, KnownRun, stepBy, passOf, InPass}
 
 -- the six points: a centre or a corner of the shared face
@@ -32,10 +32,7 @@ pub data Six : Type 0 where
 abbrev pub pointOf : Cube → Six → ℕ
 pointOf c lower = c .low
 pointOf c upper = c .high
-pointOf c (face q0) = c .mm
-pointOf c (face q1) = c .pm
-pointOf c (face q2) = c .pp
-pointOf c (face q3) = c .mp
+pointOf c (face q) = faceAt c q
 
 abbrev pub sixKind : Six → Kind
 sixKind lower = Centre
@@ -49,58 +46,22 @@ sixOffset a (face q) c = around a q c
 
 -- which of them a corner of a tetrahedron is
 abbrev pub among : Quarter → Vertex → Six
-among q0 v0 = face q0
-among q0 v1 = face q1
-among q1 v0 = face q1
-among q1 v1 = face q2
-among q2 v0 = face q3
-among q2 v1 = face q2
-among q3 v0 = face q0
-among q3 v1 = face q3
+among e v0 = face (lowEnd e)
+among e v1 = face (highEnd e)
 among e v2 = lower
 among e v3 = upper
 
-abbrev pub edgeNumber : Quarter → ℕ
-edgeNumber q0 = 0
-edgeNumber q1 = 1
-edgeNumber q2 = 2
-edgeNumber q3 = 3
-
-corner-of : (c : Cube) (e : Quarter) (v : Vertex) → cornerOf (quarterOf c (edgeNumber e)) v ≡ pointOf c (among e v)
-corner-of c q0 v0 = refl
-corner-of c q0 v1 = refl
-corner-of c q0 v2 = refl
-corner-of c q0 v3 = refl
-corner-of c q1 v0 = refl
-corner-of c q1 v1 = refl
-corner-of c q1 v2 = refl
-corner-of c q1 v3 = refl
-corner-of c q2 v0 = refl
-corner-of c q2 v1 = refl
-corner-of c q2 v2 = refl
-corner-of c q2 v3 = refl
-corner-of c q3 v0 = refl
-corner-of c q3 v1 = refl
-corner-of c q3 v2 = refl
-corner-of c q3 v3 = refl
+corner-of : (c : Cube) (e : Quarter) (v : Vertex) → cornerOf (quarterOf c e) v ≡ pointOf c (among e v)
+corner-of c e v0 = refl
+corner-of c e v1 = refl
+corner-of c e v2 = refl
+corner-of c e v3 = refl
 
 kind-of : (e : Quarter) (v : Vertex) → kind v ≡ sixKind (among e v)
-kind-of q0 v0 = refl
-kind-of q0 v1 = refl
-kind-of q0 v2 = refl
-kind-of q0 v3 = refl
-kind-of q1 v0 = refl
-kind-of q1 v1 = refl
-kind-of q1 v2 = refl
-kind-of q1 v3 = refl
-kind-of q2 v0 = refl
-kind-of q2 v1 = refl
-kind-of q2 v2 = refl
-kind-of q2 v3 = refl
-kind-of q3 v0 = refl
-kind-of q3 v1 = refl
-kind-of q3 v2 = refl
-kind-of q3 v3 = refl
+kind-of e v0 = refl
+kind-of e v1 = refl
+kind-of e v2 = refl
+kind-of e v3 = refl
 
 -- where they stand, counted from the lower cube: all types, computed
 sameOffset : Axis → Quarter → Vertex → Axis → Bool
@@ -195,7 +156,7 @@ module _ (s : Sizes) (n : ℕ) (a : Axis) (z y x : ℕ) where
   tetrahedron e = record { axis = a; cube = xyz x y z; edge = e }
 
   -- the corners of a tetrahedron are these points
-  pub numbers-are : (e : Quarter) (v : Vertex) → cornerOf (quarterOf cubeOf (edgeNumber e)) v ≡ cornerNumber s (tetrahedron e) v
+  pub numbers-are : (e : Quarter) (v : Vertex) → cornerOf (quarterOf cubeOf e) v ≡ cornerNumber s (tetrahedron e) v
   unfolding cornerNumber corner
   numbers-are e v =
       corner-of cubeOf e v
@@ -205,7 +166,7 @@ module _ (s : Sizes) (n : ℕ) (a : Axis) (z y x : ℕ) where
       ∙ (λ i. number s (sym (kind-of e v) i) (λ c. xyz x y z c + sym (offset-is a e v c) i))
 
   module _ (h : (c : Axis) → xyz x y z c + unit a c < size s c) where
-    corner-in : (e : Quarter) (v : Vertex) → cornerOf (quarterOf cubeOf (edgeNumber e)) v < points s
+    corner-in : (e : Quarter) (v : Vertex) → cornerOf (quarterOf cubeOf e) v < points s
     unfolding cornerNumber
     corner-in e v = rw (numbers-are e v) (number-lt s (kind v) (corner (tetrahedron e) v) (corner-inside s (tetrahedron e) h v))
 

@@ -7,7 +7,7 @@ use Prim.Native.Nat.{ℕ}
 use mathlib.Core.Path.{_≡_, refl, sym, ap, _∙_}
 use mathlib.Core.List.{List, [], _∷_, map}
 use native.Mathlib.Omega.{arith}
-use lib.ListN.{length, getD, length-append, length-map}
+use lib.ListN.{length, length-append, length-map}
 use Rattle.basics.specs.Lists.{gather}
 use Rattle.basics.proofs.Mapped.{gather-same}
 use Rattle.lattice.specs.declared.Sizes.{Sizes}
@@ -15,7 +15,7 @@ use Rattle.moving.specs.declared.Label.{Label}
 use Rattle.moving.specs.Reading.{Reading, labelAfter}
 use Rattle.moving.specs.Moving.{stateOf}
 use Rattle.stencil.specs.Tetrahedron.{Tetrahedron, tetrahedraOf}
-use Rattle.stencil.specs.Row.{Row, mapRow}
+use Rattle.stencil.specs.Row.{mapRow}
 use Rattle.stencil.specs.Stencil.{rowsFor}
 use Rattle.stencil.specs.Id.{idOf}
 use Rattle.stencil.specs.inner.Sign.{signed, winds}

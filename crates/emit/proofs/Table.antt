@@ -24,12 +24,12 @@ use Rattle.rows.specs.inner.Stencils.{tetraIds, Wrote}
 use Rattle.rows.proofs.Patterns.{weights}
 use Rattle.rows.proofs.Ids.{idBy, id-is, tetra-is}
 use Rattle.emit.specs.declared.Cube.{Cube}
-use Rattle.emit.specs.inner.Cubes.{cubeWeights, quarterOf, quarterWeights, edgeIds, cubeIds, Room}
+use Rattle.emit.specs.inner.Cubes.{cubeWeights, edgeNumber, quarterOf, quarterWeights, edgeIds, cubeIds, Room}
 use Rattle.emit.specs.inner.Passes.{movedCube, firstCorner, firstCentre, stepBy, passOf}
 use Rattle.emit.specs.inner.Passes.{placedIds, runIds, lineIds, layerIds, passIds, blockIds}
 use Rattle.emit.specs.inner.Mesh.{signedRows, rowTotal, signedTable}
 use Rattle.emit.proofs.Written.{gather-append}
-use Rattle.emit.proofs.Numbers.{cubeOf, tetrahedron, edgeNumber, numbers-are, counts-are, sizes-are}
+use Rattle.emit.proofs.Numbers.{cubeOf, tetrahedron, numbers-are, counts-are, sizes-are}
 
 -- parts of parts
 pub gather-gather : {A B : Type 0} (f : B → List ℕ) (g : A → List B) (l : List A) → gather f (gather g l) ≡ gather (λ x. gather f (g x)) l
@@ -54,7 +54,7 @@ module _ (s : Sizes) (label : ℕ → Label) where
   tableOf t = table (signedRows s label t)
 
   weights-are : (c : Cube) (e : Quarter)
-      → quarterWeights (cubeWeights label c) (edgeNumber e) ≡ weights (λ v. label (cornerOf (quarterOf c (edgeNumber e)) v))
+      → quarterWeights (cubeWeights label c) e ≡ weights (λ v. label (cornerOf (quarterOf c e) v))
   unfolding cubeWeights
   weights-are c q0 = refl
   weights-are c q1 = refl
@@ -62,22 +62,9 @@ module _ (s : Sizes) (label : ℕ → Label) where
   weights-are c q3 = refl
 
   module _ (a : Axis) where
-    axis-is : (z y x : ℕ) (e : Quarter) → axisAt (quarterOf (cubeOf s (points s) a z y x) (edgeNumber e) .axis) ≡ a
+    axis-is : (z y x : ℕ) → axisAt (cubeOf s (points s) a z y x .axis) ≡ a
     unfolding movedCube
-    axis-is z y x e = of-edge e ∙ pass-axis s (points s) a
-      where
-        of-edge : (e : Quarter)
-            → axisAt (quarterOf (cubeOf s (points s) a z y x) (edgeNumber e) .axis) ≡ axisAt (passOf s (points s) a .step .axis)
-        of-edge q0 = refl
-        of-edge q1 = refl
-        of-edge q2 = refl
-        of-edge q3 = refl
-
-    edge-of : (c : Cube) (e : Quarter) → quarterAt (quarterOf c (edgeNumber e) .edge) ≡ e
-    edge-of c q0 = refl
-    edge-of c q1 = refl
-    edge-of c q2 = refl
-    edge-of c q3 = refl
+    axis-is z y x = pass-axis s (points s) a
 
     -- one tetrahedron
     edge-table : (z y x : ℕ) (e : Quarter)
@@ -85,18 +72,19 @@ module _ (s : Sizes) (label : ℕ → Label) where
         ≡ tableOf (tetrahedron s (points s) a z y x e)
     unfolding edgeIds signedRows
     edge-table z y x e =
-        (λ i. tetraIds (points s) (winds (edge-back e i)) (quarterOf c (edgeNumber e)) (weights-are c e i))
-        ∙ tetra-is (points s) (quarterOf c (edgeNumber e)) (winds e) (λ v. label (cornerOf (quarterOf c (edgeNumber e)) v))
+        ap (λ (q : Quarter). tetraIds (points s) (winds q) (quarterOf c q) (quarterWeights (cubeWeights label c) q)) (edge-back e)
+        ∙ ap (tetraIds (points s) (winds e) (quarterOf c e)) (weights-are c e)
+        ∙ tetra-is (points s) (quarterOf c e) (winds e) (λ v. label (cornerOf (quarterOf c e) v))
         ∙ (λ i. table (map (mapRow (λ r. ids-are r i)) (map (signed (winds e)) (rowsFor (λ v. label (same v i))))))
       where
         c : Cube
         c = cubeOf s (points s) a z y x
 
-        same : (v : Vertex) → cornerOf (quarterOf c (edgeNumber e)) v ≡ cornerNumber s (tetrahedron s (points s) a z y x e) v
+        same : (v : Vertex) → cornerOf (quarterOf c e) v ≡ cornerNumber s (tetrahedron s (points s) a z y x e) v
         same v = numbers-are s (points s) a z y x e v
 
-        ids-are : (r : Entry Vertex) → idBy (points s) (quarterOf c (edgeNumber e)) r ≡ idOf s (tetrahedron s (points s) a z y x e) r
-        ids-are = id-is s (tetrahedron s (points s) a z y x e) (quarterOf c (edgeNumber e)) (axis-is z y x e) (edge-of c e) same
+        ids-are : (r : Entry Vertex) → idBy (points s) (quarterOf c e) r ≡ idOf s (tetrahedron s (points s) a z y x e) r
+        ids-are = id-is s (tetrahedron s (points s) a z y x e) (quarterOf c e) (axis-is z y x) (edge-back e) same
 
     cube-table : (z y x : ℕ) → cubeIds (points s) label (cubeOf s (points s) a z y x) ≡ gather tableOf (inCube a z y x)
     unfolding cubeIds gather from inCube inTurn

@@ -10,11 +10,12 @@ ghost use Rattle.rows.specs.inner.Corners.{most};
 ghost use Rattle.emit.specs.inner.Cubes.{Light, plusCount};
 ghost use Rattle.emit.specs.inner.Passes.{movedCube, KnownRun};
 
-// A line of so many points from one on has a sample above zero.
-fn has_plus(samples: &[i16], from: usize, count: usize) -> bool
-    requires { ⌜ (from + count ≤ length (now samples)) × (length (now samples) ≤ most) ⌝ }
-    ensures { λ r. ⌜ (r ≡ false → Light (labels (now (samples .entry))) from count) ⌝ }
+// A line of so many points from one on, which is so far from another, has a sample above zero.
+fn has_plus(samples: &[i16], base: usize, stride: usize, count: usize) -> bool
+    requires { ⌜ (base + stride + count ≤ length (now samples)) × (length (now samples) ≤ most) ⌝ }
+    ensures { λ r. ⌜ (r ≡ false → Light (labels (now (samples .entry))) (base + stride) count) ⌝ }
 {
+    let from = base + stride;
     ranges::has_some(true, samples, from, from + count)
 }
 
@@ -28,20 +29,20 @@ pub fn is_bare_run(samples: &[i16], step: Cube, corner: usize, centre: usize, co
     if count == 0 {
         return true;
     }
-    if has_plus(samples, centre + step.low, count) {
+    if has_plus(samples, centre, step.low, count) {
         return false;
     }
-    if has_plus(samples, centre + step.high, count) {
+    if has_plus(samples, centre, step.high, count) {
         return false;
     }
-    if has_plus(samples, corner + step.mm, count) {
+    if has_plus(samples, corner, step.mm, count) {
         return false;
     }
-    if has_plus(samples, corner + step.pm, count) {
+    if has_plus(samples, corner, step.pm, count) {
         return false;
     }
-    if has_plus(samples, corner + step.pp, count) {
+    if has_plus(samples, corner, step.pp, count) {
         return false;
     }
-    !has_plus(samples, corner + step.mp, count)
+    !has_plus(samples, corner, step.mp, count)
 }

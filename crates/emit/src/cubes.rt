@@ -7,6 +7,7 @@ use ground::signs;
 use ground::volume;
 use rows::Tetra;
 use rows::Weights;
+use rows::picks;
 use rows::stencils;
 use rows::writing;
 ghost use mathlib.Core.Path.{_≡_};
@@ -18,7 +19,7 @@ ghost use Rattle.moving.specs.Reading.{labelAfter};
 ghost use Rattle.stencil.specs.inner.Sign.{winds};
 ghost use Rattle.ground.specs.inner.Places.{placeAt, InBox, placeBox};
 ghost use Rattle.rows.specs.inner.Corners.{most, quarterAt};
-ghost use Rattle.rows.specs.inner.Picks.{weight};
+ghost use Rattle.rows.specs.inner.Picks.{plusWeight, weight};
 ghost use Rattle.rows.specs.inner.Stencils.{rowsMost, Wrote};
 ghost use Rattle.emit.specs.inner.Cubes.{cubeWeights, windsWith, quarterOf, quarterWeights, KnownCube, SmallCube, plusAt, plusCount};
 ghost use Rattle.emit.specs.inner.Cubes.{unmoved, solidCube, cubeCount, edgeIds, cubeIds, cubeMost, Room};
@@ -26,25 +27,25 @@ ghost use Rattle.emit.specs.inner.Cubes.{unmoved, solidCube, cubeCount, 
 // The weight of a sample's sign.
 fn weight_of(x: i16) -> usize
     ensures { λ r. ⌜ r ≡ weight (labelOf x) ⌝ }
-    ensures { λ r. ⌜ r ≤ 5 ⌝ }
+    ensures { λ r. ⌜ r ≤ plusWeight ⌝ }
 {
     if signs::is_plus(x) {
-        return 5;
+        return picks::PLUS;
     }
     if signs::is_minus(x) {
-        return 1;
+        return picks::MINUS;
     }
-    0
+    picks::ZERO
 }
 
 // The weight of a point's label: zero once it has moved.
 fn weigh(samples: &[i16], state: &[u8], p: usize) -> usize
     requires { ⌜ (p < length (now samples)) × (p < length (now state)) ⌝ }
     ensures { λ r. ⌜ r ≡ weight (labelAfter (labels (now (samples .entry))) (now (state .entry)) p) ⌝ }
-    ensures { λ r. ⌜ r ≤ 5 ⌝ }
+    ensures { λ r. ⌜ r ≤ plusWeight ⌝ }
 {
     if state[p] != 0 {
-        return 0;
+        return picks::ZERO;
     }
     weight_of(samples[p])
 }
@@ -74,7 +75,7 @@ fn weigh_cube(samples: &[i16], state: &[u8], c: Cube) -> CubeWeights
 
 // The tetrahedron of an edge of the turn, its corners ascending.
 fn quarter(c: Cube, e: usize) -> Tetra
-    ensures { λ r. ⌜ r ≡ quarterOf c e ⌝ }
+    ensures { λ r. ⌜ r ≡ quarterOf c (quarterAt e) ⌝ }
 {
     match e {
         0 => Tetra {
@@ -114,7 +115,7 @@ fn quarter(c: Cube, e: usize) -> Tetra
 
 // The weights of its four corners.
 fn quarter_weights(w: CubeWeights, e: usize) -> Weights
-    ensures { λ r. ⌜ r ≡ quarterWeights w e ⌝ }
+    ensures { λ r. ⌜ r ≡ quarterWeights w (quarterAt e) ⌝ }
 {
     match e {
         0 => Weights {
@@ -144,6 +145,16 @@ fn quarter_weights(w: CubeWeights, e: usize) -> Weights
     }
 }
 
+// Where the points of a cube at 0 and the next one stand along an axis, 256 to a doubled coordinate:
+// the lowest corner, the centre, the shared face and the next cube's centre.
+const CORNER: i64 = 0;
+
+const CENTRE: i64 = 256;
+
+const FACE: i64 = 512;
+
+const NEXT: i64 = 768;
+
 // A tetrahedron of two corners of the shared face and the two centres, in this order, winds
 // positively: a signed triple product, in places seen along the axis, the next one and the one
 // after, from a cube at 0.
@@ -152,14 +163,14 @@ fn winds_with(first: Place, second: Place) -> bool
     ensures { λ r. ⌜ r ≡ windsWith (placeAt first) (placeAt second) ⌝ }
 {
     let lower = Place {
-        x: 256,
-        y: 256,
-        z: 256,
+        x: CENTRE,
+        y: CENTRE,
+        z: CENTRE,
     };
     let upper = Place {
-        x: 768,
-        y: 256,
-        z: 256,
+        x: NEXT,
+        y: CENTRE,
+        z: CENTRE,
     };
     let v = volume::six_volume(first, second, lower, upper);
     0 < v
@@ -171,21 +182,25 @@ fn winding(e: usize) -> bool
     requires { ⌜ e < 4 ⌝ }
     ensures { λ r. ⌜ r ≡ winds (quarterAt e) ⌝ }
 {
-    let mm = Place { x: 512, y: 0, z: 0 };
+    let mm = Place {
+        x: FACE,
+        y: CORNER,
+        z: CORNER,
+    };
     let pm = Place {
-        x: 512,
-        y: 512,
-        z: 0,
+        x: FACE,
+        y: FACE,
+        z: CORNER,
     };
     let pp = Place {
-        x: 512,
-        y: 512,
-        z: 512,
+        x: FACE,
+        y: FACE,
+        z: FACE,
     };
     let mp = Place {
-        x: 512,
-        y: 0,
-        z: 512,
+        x: FACE,
+        y: CORNER,
+        z: FACE,
     };
     match e {
         0 => winds_with(mm, pm),

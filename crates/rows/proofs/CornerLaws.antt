@@ -1,7 +1,7 @@
 -- Laws of the corners that the code holds. Assumes nothing.
 use Prim.Native.Nat.{ℕ, zero, suc, _+_, _*_, _/_, _%_, _<_}
 use native.Mathlib.Omega.{arith}
-use mathlib.Core.Path.{_≡_, refl, sym, ap, _∙_}
+use mathlib.Core.Path.{_≡_, refl, ap, _∙_}
 use mathlib.Core.Bool.{Bool, true, false}
 use lib.Dec.{ltb}
 use Rattle.basics.specs.Choice.{if_then_else_}
@@ -10,7 +10,6 @@ use Rattle.lattice.specs.Direction.{directionOf}
 use Rattle.stencil.specs.Tetrahedron.{Vertex, v0, v1, v2, v3, Quarter}
 use Rattle.stencil.specs.Stencil.{rank}
 use Rattle.stencil.specs.Id.{codeBetween}
-use Rattle.rows.specs.declared.Corner.{Corner}
 use Rattle.rows.specs.declared.Corner.the-variants.{Edge}
 use Rattle.rows.specs.declared.Tetra.{Tetra}
 use Rattle.rows.specs.inner.Corners.{axisAt, quarterAt, vertexAt, cornerOf, numberAt, startBetween, wayBetween, cutAt, Tetrahedral}

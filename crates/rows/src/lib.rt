@@ -36,8 +36,7 @@ pub struct Tetra {
     pub d: usize,
 }
 
-// The weights of its four corners' labels: 5 for plus, 1 for minus, 0 for zero. Their sum is the
-// pattern's number.
+// The weights of its four corners' labels.
 pub struct Weights {
     pub a: usize,
     pub b: usize,

@@ -5,6 +5,13 @@ ghost use mathlib.Core.Path.{_≡_};
 ghost use Prim.Native.Nat.{_≤_};
 ghost use Rattle.rows.specs.inner.Picks.{picked, chosen, ordered, inversion, isEven};
 
+// The weights of labels. Those of four corners add up to the pattern's number.
+pub const PLUS: usize = 5;
+
+pub const MINUS: usize = 1;
+
+pub const ZERO: usize = 0;
+
 fn pick(taken: bool, v: usize, rest: Order) -> Order
     ensures { λ r. ⌜ r ≡ picked taken v rest ⌝ }
 {
@@ -38,9 +45,9 @@ pub fn order(w: Weights) -> Order
         third: 0,
         fourth: 0,
     };
-    let zeros = choose(0, w, none);
-    let others = choose(1, w, zeros);
-    choose(5, w, others)
+    let zeros = choose(ZERO, w, none);
+    let others = choose(MINUS, w, zeros);
+    choose(PLUS, w, others)
 }
 
 // A pair of corners that the order exchanges.

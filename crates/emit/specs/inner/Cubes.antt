@@ -1,5 +1,5 @@
 -- The tetrahedra between a cube and the next one along an axis, and what is written for them.
-use Prim.Native.Nat.{ℕ, zero, suc, _+_, _*_, _≤_, _<_}
+use Prim.Native.Nat.{ℕ, _+_, _*_, _≤_, _<_}
 use mathlib.Core.Path.{_≡_}
 use mathlib.Core.List.{List}
 use mathlib.Core.Bool.{Bool}
@@ -14,12 +14,13 @@ use Rattle.geometry.specs.Place.{Place}
 use Rattle.geometry.specs.Volume.{sixVolume}
 use Rattle.moving.specs.declared.Label.{Label}
 use Rattle.moving.specs.Label.{isPlus}
+use Rattle.stencil.specs.Tetrahedron.{Quarter, q0, q1, q2, q3}
 use Rattle.stencil.specs.Stencil.{stencilOf}
 use Rattle.stencil.specs.inner.Sign.{winds}
 use Rattle.rows.specs.declared.Tetra.{Tetra}
 use Rattle.rows.specs.declared.Weights.{Weights}
 use Rattle.rows.specs.inner.Corners.{quarterAt}
-use Rattle.rows.specs.inner.Picks.{weight, sum}
+use Rattle.rows.specs.inner.Picks.{plusWeight, weight, sum}
 use Rattle.rows.specs.inner.Stencils.{rowCount, tetraIds, tetraMost}
 use Rattle.emit.specs.declared.Cube.{Cube}
 use Rattle.emit.specs.declared.CubeWeights.{CubeWeights}
@@ -41,18 +42,45 @@ abbrev pub windsWith : Place → Place → Bool
 windsWith first second =
     ltZ (pos 0) (sixVolume first second (xyz (pos 256) (pos 256) (pos 256)) (xyz (pos 768) (pos 256) (pos 256)))
 
--- the tetrahedron of an edge of the turn, its corners ascending, and their weights
-abbrev pub quarterOf : Cube → ℕ → Tetra
-quarterOf c zero = record { axis = c .axis; edge = 0; a = c .mm; b = c .pm; c = c .low; d = c .high }
-quarterOf c (suc zero) = record { axis = c .axis; edge = 1; a = c .pm; b = c .pp; c = c .low; d = c .high }
-quarterOf c (suc (suc zero)) = record { axis = c .axis; edge = 2; a = c .mp; b = c .pp; c = c .low; d = c .high }
-quarterOf c (suc (suc (suc e))) = record { axis = c .axis; edge = 3; a = c .mm; b = c .mp; c = c .low; d = c .high }
+-- the corners of the shared face, and their weights, in the turn
+abbrev pub faceAt : Cube → Quarter → ℕ
+faceAt c q0 = c .mm
+faceAt c q1 = c .pm
+faceAt c q2 = c .pp
+faceAt c q3 = c .mp
 
-abbrev pub quarterWeights : CubeWeights → ℕ → Weights
-quarterWeights w zero = record { a = w .mm; b = w .pm; c = w .low; d = w .high }
-quarterWeights w (suc zero) = record { a = w .pm; b = w .pp; c = w .low; d = w .high }
-quarterWeights w (suc (suc zero)) = record { a = w .mp; b = w .pp; c = w .low; d = w .high }
-quarterWeights w (suc (suc (suc e))) = record { a = w .mm; b = w .mp; c = w .low; d = w .high }
+abbrev pub faceWeight : CubeWeights → Quarter → ℕ
+faceWeight w q0 = w .mm
+faceWeight w q1 = w .pm
+faceWeight w q2 = w .pp
+faceWeight w q3 = w .mp
+
+-- the lower and the upper end of an edge of the turn, and the edge's number
+abbrev pub lowEnd : Quarter → Quarter
+lowEnd q0 = q0
+lowEnd q1 = q1
+lowEnd q2 = q3
+lowEnd q3 = q0
+
+abbrev pub highEnd : Quarter → Quarter
+highEnd q0 = q1
+highEnd q1 = q2
+highEnd q2 = q2
+highEnd q3 = q3
+
+abbrev pub edgeNumber : Quarter → ℕ
+edgeNumber q0 = 0
+edgeNumber q1 = 1
+edgeNumber q2 = 2
+edgeNumber q3 = 3
+
+-- the tetrahedron of an edge of the turn, its corners ascending, and their weights
+abbrev pub quarterOf : Cube → Quarter → Tetra
+quarterOf c q =
+    record { axis = c .axis; edge = edgeNumber q; a = faceAt c (lowEnd q); b = faceAt c (highEnd q); c = c .low; d = c .high }
+
+abbrev pub quarterWeights : CubeWeights → Quarter → Weights
+quarterWeights w q = record { a = faceWeight w (lowEnd q); b = faceWeight w (highEnd q); c = w .low; d = w .high }
 
 -- six points of a block of n points
 pub record KnownCube (n : ℕ) (c : Cube) : Type 0 where
@@ -66,12 +94,12 @@ pub record KnownCube (n : ℕ) (c : Cube) : Type 0 where
 
 -- weights of labels
 pub record SmallCube (w : CubeWeights) : Type 0 where
-  pub low-small : w .low ≤ 5
-  pub high-small : w .high ≤ 5
-  pub mm-small : w .mm ≤ 5
-  pub pm-small : w .pm ≤ 5
-  pub pp-small : w .pp ≤ 5
-  pub mp-small : w .mp ≤ 5
+  pub low-small : w .low ≤ plusWeight
+  pub high-small : w .high ≤ plusWeight
+  pub mm-small : w .mm ≤ plusWeight
+  pub pm-small : w .pm ≤ plusWeight
+  pub pp-small : w .pp ≤ plusWeight
+  pub mp-small : w .mp ≤ plusWeight
 
 -- f at the six points, added up
 abbrev pub total : (ℕ → ℕ) → Cube → ℕ
@@ -99,18 +127,19 @@ unmoved state c = eqb (total (λ p. getD state p 0) c) 0
 
 -- the weights of six plus points
 abbrev pub solidCube : CubeWeights
-solidCube = record { low = 5; high = 5; mm = 5; pm = 5; pp = 5; mp = 5 }
+solidCube =
+    record { low = plusWeight; high = plusWeight; mm = plusWeight; pm = plusWeight; pp = plusWeight; mp = plusWeight }
 
--- what is written for one of the four tetrahedra, by the weights of the six points
+-- what is written for the tetrahedron of an edge of the turn, by the weights of the six points
 unfoldable pub edgeIds : ℕ → Cube → CubeWeights → ℕ → List ℕ
-edgeIds n c w e = tetraIds n (winds (quarterAt e)) (quarterOf c e) (quarterWeights w e)
+edgeIds n c w e = let q = quarterAt e in tetraIds n (winds q) (quarterOf c q) (quarterWeights w q)
 
--- how many rows they have together
+-- how many rows the four have together
 unfoldable pub cubeCount : CubeWeights → ℕ
-cubeCount w = count 0 + count 1 + count 2 + count 3
+cubeCount w = count q0 + count q1 + count q2 + count q3
   where
-    count : ℕ → ℕ
-    count e = rowCount (stencilOf (sum (quarterWeights w e)))
+    count : Quarter → ℕ
+    count q = rowCount (stencilOf (sum (quarterWeights w q)))
 
 -- what is written for the four tetrahedra among n points when points have these labels
 unfoldable pub cubeIds : ℕ → (ℕ → Label) → Cube → List ℕ

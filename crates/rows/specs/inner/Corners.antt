@@ -2,14 +2,14 @@
 use Prim.Native.Nat.{ℕ, zero, suc, _+_, _*_, _<_}
 use mathlib.Core.Bool.{Bool}
 use mathlib.Core.List.{List, [], _∷_}
-use lib.Dec.{ltb, eqb}
+use lib.Dec.{ltb}
 use Rattle.basics.specs.Choice.{if_then_else_}
 use Rattle.lattice.specs.Axis.{Axis, along-x, along-y, along-z}
 use Rattle.lattice.specs.Counts.{largest}
 use Rattle.lattice.specs.Direction.{directionOf}
 use Rattle.lattice.specs.Edge.{byteAt}
 use Rattle.stencil.specs.Tetrahedron.{Vertex, v0, v1, v2, v3, Quarter, q0, q1, q2, q3}
-use Rattle.stencil.specs.Stencil.{Entry, between, rank}
+use Rattle.stencil.specs.Stencil.{between, rank}
 use Rattle.stencil.specs.Id.{codeBetween, startOf}
 use Rattle.rows.specs.declared.Corner.{Corner}
 use Rattle.rows.specs.declared.Corner.the-variants.{Point, Edge}

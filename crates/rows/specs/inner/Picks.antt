@@ -1,4 +1,4 @@
--- The corners of a tetrahedron in the order of the table, by the weights of their labels: 5 for plus, 1 for minus, 0 for zero.
+-- The corners of a tetrahedron in the order of the table, by the weights of their labels.
 use Prim.Native.Nat.{ℕ, _+_, _%_}
 use mathlib.Core.Bool.{Bool}
 use lib.Dec.{ltb, eqb}
@@ -8,10 +8,17 @@ use Rattle.moving.specs.declared.Label.the-variants.{Minus, Zero, Plus}
 use Rattle.rows.specs.declared.Weights.{Weights}
 use Rattle.rows.specs.declared.Order.{Order}
 
+-- the weights of labels: those of four corners add up to the pattern's number
+abbrev pub plusWeight : ℕ
+plusWeight = 5
+
+abbrev pub minusWeight : ℕ
+minusWeight = 1
+
 unfoldable pub weight : Label → ℕ
-weight Minus = 1
+weight Minus = minusWeight
 weight Zero = 0
-weight Plus = 5
+weight Plus = plusWeight
 
 -- the pattern's number
 unfoldable pub sum : Weights → ℕ
@@ -27,7 +34,7 @@ chosen k w o = picked (eqb (w .a) k) 0 (picked (eqb (w .b) k) 1 (picked (eqb (w 
 
 -- plus, minus and zero corners
 unfoldable pub ordered : Weights → Order
-ordered w = chosen 5 w (chosen 1 w (chosen 0 w (record { first = 0; second = 0; third = 0; fourth = 0 })))
+ordered w = chosen plusWeight w (chosen minusWeight w (chosen 0 w (record { first = 0; second = 0; third = 0; fourth = 0 })))
 
 -- how many pairs of corners the order exchanges
 unfoldable pub inversion : ℕ → ℕ → ℕ

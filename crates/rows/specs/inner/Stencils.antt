@@ -16,7 +16,7 @@ use Rattle.rows.specs.declared.Tetra.{Tetra}
 use Rattle.rows.specs.declared.Weights.{Weights}
 use Rattle.rows.specs.declared.Order.{Order}
 use Rattle.rows.specs.inner.Corners.{most, Tetrahedral, KnownRow, turned, pointAt, cutAt, rowIds}
-use Rattle.rows.specs.inner.Picks.{sum, ordered, isEven}
+use Rattle.rows.specs.inner.Picks.{plusWeight, sum, ordered, isEven}
 
 -- a tetrahedron of one of the kinds, and an order of its corners
 pub record InOrder (t : Tetra) (o : Order) : Type 0 where
@@ -99,10 +99,10 @@ pub record KnownTetra (n : ℕ) (t : Tetra) : Type 0 where
   pub d-in : t .d < n
 
 pub record Small (w : Weights) : Type 0 where
-  pub a-small : w .a ≤ 5
-  pub b-small : w .b ≤ 5
-  pub c-small : w .c ≤ 5
-  pub d-small : w .d ≤ 5
+  pub a-small : w .a ≤ plusWeight
+  pub b-small : w .b ≤ plusWeight
+  pub c-small : w .c ≤ plusWeight
+  pub d-small : w .d ≤ plusWeight
 
 -- what is written for a tetrahedron whose corners wind positively, ascending (true), or do not, by the weights of its labels
 unfoldable pub tetraIds : ℕ → Bool → Tetra → Weights → List ℕ
@@ -110,7 +110,7 @@ tetraIds n wound t w = allIds n (stencilRows t (ordered w) (Bool·beq wound (isE
 
 -- the weights of four plus corners
 abbrev pub solid : Weights
-solid = record { a = 5; b = 5; c = 5; d = 5 }
+solid = record { a = plusWeight; b = plusWeight; c = plusWeight; d = plusWeight }
 
 -- no tetrahedron has more numbers in its rows: three rows of four
 abbrev pub tetraMost : ℕ

@@ -1,18 +1,20 @@
--- The samples of the line, one by one. Assumes nothing.
+-- The samples of the line, all at once. Assumes nothing.
 use Rattle.emit.proofs.BareLaws.{light-line}
-use native.Mathlib.Omega.{arith}
 use borrow.Author.Needs.{needs}
 use Rattle.emit.proofs.bare.has_plus.Statement.{statement}
 use Rattle.emit.proofs.bare.has_plus.Tie as tie
 
+add-from : tie.Need-add-from
+add-from c = search needs
+
 add-has-some : tie.Need-add-has-some
-add-has-some c = omega (arith, c .pre)
+add-has-some c = search needs
 
 has-some-requires : tie.Need-has-some-requires
-has-some-requires c κs = omega (arith, c .pre .1)
+has-some-requires c κs = search needs
 
 returns : tie.Need-returns
 returns c = λ e. light-line (c .before .args .samples .now) _ _ (c .has-some .ensures e)
 
 pub has-plus-spec : {M : Type 1} → statement M
-has-plus-spec = tie.close (tie.spec add-has-some has-some-requires returns)
+has-plus-spec = tie.close (tie.spec add-from add-has-some has-some-requires returns)

@@ -9,126 +9,71 @@ use Rattle.emit.proofs.bare.is_bare_run.Tie as tie
 returns : tie.Need-returns
 returns c = λ t x h. absurd (omega (arith, h, c .if1 .taken))
 
-add-has-plus : tie.Need-add-has-plus
-add-has-plus c =
-    let at-some = c .before in
-    omega (arith, run-ends (at-some .before .pre .1) (at-some .if1 .left) .low-ends, at-some .before .pre .0)
-
 has-plus-requires : tie.Need-has-plus-requires
 has-plus-requires c κs =
-    let at-some = c .before in
-    (run-ends (at-some .before .pre .1) (at-some .if1 .left) .low-ends, at-some .before .pre .0)
+    let p = c .before .pre in
+    (run-ends (p .1) (c .if1 .left) .low-ends, p .0)
 
 returns-2 : tie.Need-returns-2
 returns-2 c = λ t. absurd (false≢true t)
 
-add-has-plus-2 : tie.Need-add-has-plus-2
-add-has-plus-2 c =
-    let at-first = c .before .before .before in
-    let at-some = at-first .before in
-    omega (arith, run-ends (at-some .before .pre .1) (at-some .if1 .left) .high-ends, at-some .before .pre .0)
-
 has-plus-requires-2 : tie.Need-has-plus-requires-2
 has-plus-requires-2 c κs =
-    let at-first = c .before .before .before in
-    let at-some = at-first .before in
-    (run-ends (at-some .before .pre .1) (at-some .if1 .left) .high-ends, at-some .before .pre .0)
+    let at-some = c .before .before in
+    let p = at-some .before .pre in
+    (run-ends (p .1) (at-some .if1 .left) .high-ends, p .0)
 
 returns-3 : tie.Need-returns-3
 returns-3 c = λ t. absurd (false≢true t)
 
-add-has-plus-3 : tie.Need-add-has-plus-3
-add-has-plus-3 c =
-    let at-second = c .before .before .before in
-    let at-first = at-second .before .before .before in
-    let at-some = at-first .before in
-    omega (arith, run-ends (at-some .before .pre .1) (at-some .if1 .left) .mm-ends, at-some .before .pre .0)
-
 has-plus-requires-3 : tie.Need-has-plus-requires-3
 has-plus-requires-3 c κs =
-    let at-second = c .before .before .before in
-    let at-first = at-second .before .before .before in
-    let at-some = at-first .before in
-    (run-ends (at-some .before .pre .1) (at-some .if1 .left) .mm-ends, at-some .before .pre .0)
+    let at-some = c .before .before .before .before in
+    let p = at-some .before .pre in
+    (run-ends (p .1) (at-some .if1 .left) .mm-ends, p .0)
 
 returns-4 : tie.Need-returns-4
 returns-4 c = λ t. absurd (false≢true t)
 
-add-has-plus-4 : tie.Need-add-has-plus-4
-add-has-plus-4 c =
-    let at-third = c .before .before .before in
-    let at-second = at-third .before .before .before in
-    let at-first = at-second .before .before .before in
-    let at-some = at-first .before in
-    omega (arith, run-ends (at-some .before .pre .1) (at-some .if1 .left) .pm-ends, at-some .before .pre .0)
-
 has-plus-requires-4 : tie.Need-has-plus-requires-4
 has-plus-requires-4 c κs =
-    let at-third = c .before .before .before in
-    let at-second = at-third .before .before .before in
-    let at-first = at-second .before .before .before in
-    let at-some = at-first .before in
-    (run-ends (at-some .before .pre .1) (at-some .if1 .left) .pm-ends, at-some .before .pre .0)
+    let at-some = c .before .before .before .before .before .before in
+    let p = at-some .before .pre in
+    (run-ends (p .1) (at-some .if1 .left) .pm-ends, p .0)
 
 returns-5 : tie.Need-returns-5
 returns-5 c = λ t. absurd (false≢true t)
 
-add-has-plus-5 : tie.Need-add-has-plus-5
-add-has-plus-5 c =
-    let at-fourth = c .before .before .before in
-    let at-third = at-fourth .before .before .before in
-    let at-second = at-third .before .before .before in
-    let at-first = at-second .before .before .before in
-    let at-some = at-first .before in
-    omega (arith, run-ends (at-some .before .pre .1) (at-some .if1 .left) .pp-ends, at-some .before .pre .0)
-
 has-plus-requires-5 : tie.Need-has-plus-requires-5
 has-plus-requires-5 c κs =
-    let at-fourth = c .before .before .before in
-    let at-third = at-fourth .before .before .before in
-    let at-second = at-third .before .before .before in
-    let at-first = at-second .before .before .before in
-    let at-some = at-first .before in
-    (run-ends (at-some .before .pre .1) (at-some .if1 .left) .pp-ends, at-some .before .pre .0)
+    let at-some = c .before .before .before .before .before .before .before .before in
+    let p = at-some .before .pre in
+    (run-ends (p .1) (at-some .if1 .left) .pp-ends, p .0)
 
 returns-6 : tie.Need-returns-6
 returns-6 c = λ t. absurd (false≢true t)
 
-add-has-plus-6 : tie.Need-add-has-plus-6
-add-has-plus-6 c =
-    let at-fifth = c .before .before .before in
-    let at-fourth = at-fifth .before .before .before in
-    let at-third = at-fourth .before .before .before in
-    let at-second = at-third .before .before .before in
-    let at-first = at-second .before .before .before in
-    let at-some = at-first .before in
-    omega (arith, run-ends (at-some .before .pre .1) (at-some .if1 .left) .mp-ends, at-some .before .pre .0)
-
 has-plus-requires-6 : tie.Need-has-plus-requires-6
 has-plus-requires-6 c κs =
-    let at-fifth = c .before .before .before in
-    let at-fourth = at-fifth .before .before .before in
-    let at-third = at-fourth .before .before .before in
-    let at-second = at-third .before .before .before in
-    let at-first = at-second .before .before .before in
-    let at-some = at-first .before in
-    (run-ends (at-some .before .pre .1) (at-some .if1 .left) .mp-ends, at-some .before .pre .0)
+    let at-some = c .before .before .before .before .before .before .before .before .before .before in
+    let p = at-some .before .pre in
+    (run-ends (p .1) (at-some .if1 .left) .mp-ends, p .0)
 
 returns-7 : tie.Need-returns-7
 returns-7 c =
-    let at-fifth = c .before .before .before in
-    let at-fourth = at-fifth .before .before .before in
-    let at-third = at-fourth .before .before .before in
-    let at-second = at-third .before .before .before in
-    let at-first = at-second .before .before .before in
+    let at-fifth = c .before .before in
+    let at-fourth = at-fifth .before .before in
+    let at-third = at-fourth .before .before in
+    let at-second = at-third .before .before in
+    let at-first = at-second .before .before in
     λ t.
     bare-run _ _ _ _ _
     (record {
-      low-light = at-first .has-plus .ensures (at-second .before .before .if2 .left);
-      high-light = at-second .has-plus2 .ensures (at-third .before .before .if3 .left);
-      mm-light = at-third .has-plus3 .ensures (at-fourth .before .before .if4 .left);
-      pm-light = at-fourth .has-plus4 .ensures (at-fifth .before .before .if5 .left);
-      pp-light = at-fifth .has-plus5 .ensures (c .before .before .if6 .left);
+      low-light = at-first .has-plus .ensures (at-second .before .if2 .left);
+      high-light = at-second .has-plus2 .ensures (at-third .before .if3 .left);
+      mm-light = at-third .has-plus3 .ensures (at-fourth .before .if4 .left);
+      pm-light = at-fourth .has-plus4 .ensures (at-fifth .before .if5 .left);
+      pp-light = at-fifth .has-plus5 .ensures (c .before .if6 .left);
       mp-light = c .has-plus6 .ensures (not-true _ t);
     })
 
@@ -137,21 +82,15 @@ is-bare-run-spec =
     tie.close
     (tie.spec
     returns
-    add-has-plus
     has-plus-requires
     returns-2
-    add-has-plus-2
     has-plus-requires-2
     returns-3
-    add-has-plus-3
     has-plus-requires-3
     returns-4
-    add-has-plus-4
     has-plus-requires-4
     returns-5
-    add-has-plus-5
     has-plus-requires-5
     returns-6
-    add-has-plus-6
     has-plus-requires-6
     returns-7)

@@ -1,7 +1,6 @@
 -- Six weights, each read once. Assumes nothing.
 use Rattle.emit.specs.inner.Cubes.{cubeWeights}
 use native.Mathlib.Omega.{arith}
-use borrow.Author.Needs.{needs}
 use Rattle.emit.proofs.cubes.weigh_cube.Statement.{statement}
 use Rattle.emit.proofs.cubes.weigh_cube.Tie as tie
 

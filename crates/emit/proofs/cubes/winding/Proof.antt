@@ -1,8 +1,8 @@
 -- The sign of a signed triple product, computed for each edge of the turn. Assumes nothing.
-use Rattle.emit.proofs.CubeLaws.{last-winds}
+use Rattle.emit.proofs.CubeLaws.{last-edge}
+use Rattle.stencil.specs.inner.Sign.{winds}
 use Rattle.geometry.specs.Volume.{sixVolume, triple, dot, cross}
-use mathlib.Core.Path.{_∙_}
-use native.Mathlib.Omega.{arith}
+use mathlib.Core.Path.{ap, _∙_}
 use borrow.Author.Needs.{needs}
 use Rattle.emit.proofs.cubes.winding.Statement.{statement}
 use Rattle.emit.proofs.cubes.winding.Tie as tie
@@ -35,7 +35,7 @@ returns-4 : tie.Need-returns-4
 unfolding sixVolume triple dot cross
 returns-4 c =
     let r = c .before .match .rest in
-    c .winds-with4 .ensures ∙ last-winds _ (r .0 .0 .1) (r .0 .1) (r .1)
+    c .winds-with4 .ensures ∙ ap winds (last-edge _ (r .0 .0 .1) (r .0 .1) (r .1))
 
 pub winding-spec : {M : Type 1} → statement M
 winding-spec =

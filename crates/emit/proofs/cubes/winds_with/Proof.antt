@@ -4,7 +4,6 @@ use lib.Signed.{ltZ}
 use lib.IntN.{ℤ, pos}
 use mathlib.Core.Path.{ap}
 use native.Mathlib.Omega.{arith}
-use borrow.Author.Needs.{needs}
 use Rattle.emit.proofs.cubes.winds_with.Statement.{statement}
 use Rattle.emit.proofs.cubes.winds_with.Tie as tie
 

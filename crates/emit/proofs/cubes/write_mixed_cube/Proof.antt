@@ -69,12 +69,12 @@ write-tetra-requires c κs =
     let room = cube-room _ _ _ _ _ _ (w .ensures .0) (p .1 .1 .1 .1) in (
       p .0,
       (
-        edge-known (a .n) (a .c) (w .result) (i .e) _ _ _ b t v (p .1 .1 .0),
+        edge-known (a .n) (a .c) (w .result) (i .e) b t v (p .1 .1 .0),
         (
-          edge-small (a .n) (a .c) (w .result) (i .e) _ _ _ b t v (w .ensures .1),
+          edge-small (a .n) (a .c) (w .result) (i .e) b t v (w .ensures .1),
           (
             omega (arith, index-most (i .inv .1) tetraMost 4 (λ j l. edge-most _ _ _ j) (i .inv .0), h, p .1 .1 .1 .0),
-            fits-left (i .inv .1) 4 (edge-is (a .n) (a .c) (w .result) (i .e) _ _ _ b t v) h (room .fits (omega (arith, at-if .if1 .left))),
+            fits-left (i .inv .1) 4 (edge-is (a .n) (a .c) (w .result) (i .e) b t v) h (room .fits (omega (arith, at-if .if1 .left))),
           ),
         ),
       ),
@@ -99,7 +99,7 @@ loop-again c =
     let b = at-winding .winding .ensures in
     let t = at-quarter .quarter .ensures in
     let v = at-weights .quarter-weights .ensures in
-    let edge = edge-is (a .n) (a .c) (at-weigh .weigh-cube .result) (i .e) _ _ _ b t v in
+    let edge = edge-is (a .n) (a .c) (at-weigh .weigh-cube .result) (i .e) b t v in
     (omega arith, more-written (i .inv .1) edge (at-write .write-tetra .ensures))
 
 same-length : tie.Need-same-length Inv μ

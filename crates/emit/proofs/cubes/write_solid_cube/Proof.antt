@@ -1,4 +1,5 @@
 -- Four rows, one after the other, or counted into an empty table. Assumes nothing.
+use Rattle.rows.specs.inner.Corners.{quarterAt}
 use Rattle.rows.proofs.StencilLaws.{solid-long}
 use Rattle.emit.proofs.CubeLaws.{edge-known, solid-quarter, solid-edge, solid-edge-most, solid-cube-long}
 use Rattle.emit.proofs.Written.{Written, none-written, more-written, room-left, index-most, only-counted, kept-long, all-written}
@@ -46,11 +47,11 @@ write-solid-requires c κs =
     let w = at-winding .winding .ensures in
     let q = at-quarter .quarter .ensures in
     let same-long = kept-long (i .inv .1) in
-    let room = room-left (i .inv .1) 4 (solid-edge (a .n) (a .c) (i .e) _ _ w q) (at-test .loop-test .taken) (p .1 .1 .1) in
+    let room = room-left (i .inv .1) 4 (solid-edge (a .n) (a .c) (i .e) w q) (at-test .loop-test .taken) (p .1 .1 .1) in
     let long = solid-long (a .n) (at-winding .winding .result) (at-quarter .quarter .result) in (
       p .0,
       (
-        edge-known (a .n) (a .c) solidCube (i .e) _ _ _ w q (solid-quarter (a .n) (a .c) (i .e)) (p .1 .0),
+        edge-known (a .n) (a .c) solidCube (i .e) w q (solid-quarter (quarterAt (i .e))) (p .1 .0),
         omega (arith, long, same-long, room .fits (omega (arith, same-long, at-if .if1 .left))),
       ),
     )
@@ -78,7 +79,7 @@ loop-again c =
     let a = at-loop .before .before .before .args in
     let i = at-loop .loop in
     let long = solid-long (a .n) (at-winding .winding .result) (at-quarter .quarter .result) in
-    let edge = solid-edge (a .n) (a .c) (i .e) _ _ (at-winding .winding .ensures) (at-quarter .quarter .ensures) in
+    let edge = solid-edge (a .n) (a .c) (i .e) (at-winding .winding .ensures) (at-quarter .quarter .ensures) in
     (omega arith, more-written (i .inv .1) edge (record { now-is = at-write .write-solid .ensures; to-is = omega (arith, long) }))
 
 same-length : tie.Need-same-length Inv μ

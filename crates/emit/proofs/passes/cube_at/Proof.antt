@@ -2,7 +2,6 @@
 use Rattle.emit.specs.inner.Passes.{movedCube}
 use mathlib.Core.Path.{refl}
 use native.Mathlib.Omega.{arith}
-use borrow.Author.Needs.{needs}
 use Rattle.emit.proofs.passes.cube_at.Statement.{statement}
 use Rattle.emit.proofs.passes.cube_at.Tie as tie
 

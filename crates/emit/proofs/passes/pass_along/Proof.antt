@@ -1,10 +1,8 @@
 -- The strides along each axis, and how many cubes have a next one. Assumes nothing.
 use Rattle.emit.proofs.PassLaws.{layer-small, last-axis, along-x-is, along-y-is, along-z-is}
-use Rattle.rows.specs.inner.Corners.{axisAt}
 use mathlib.Core.Path.{_∙_}
 use Rattle.lattice.proofs.Bounds.{small}
 use native.Mathlib.Omega.{arith}
-use borrow.Author.Needs.{needs}
 use Rattle.emit.proofs.passes.pass_along.Statement.{statement}
 use Rattle.emit.proofs.passes.pass_along.Tie as tie
 
@@ -49,18 +47,24 @@ sub-t14 c = omega arith
 returns : tie.Need-returns
 returns c =
     let at-step = c .before in
-    rw (at-step .before .match .keys1) (along-x-is _ _ _ (at-step .step-by .ensures))
+    let at-match = at-step .before in
+    let a = at-match .before .before .before .args in
+    rw (at-match .match .keys1) (along-x-is (a .s) (a .n) _ (at-step .step-by .ensures))
 
 returns-2 : tie.Need-returns-2
 returns-2 c =
     let at-step = c .before in
-    rw (at-step .before .match .keys2) (along-y-is _ _ _ (at-step .step-by2 .ensures))
+    let at-match = at-step .before in
+    let a = at-match .before .before .before .args in
+    rw (at-match .match .keys2) (along-y-is (a .s) (a .n) _ (at-step .step-by2 .ensures))
 
 returns-3 : tie.Need-returns-3
 returns-3 c =
     let at-step = c .before in
-    let r = at-step .before .before .match .rest in
-    along-z-is _ _ _ (at-step .step-by3 .ensures) ∙ last-axis _ _ _ (r .0 .1) (r .1)
+    let at-match = at-step .before .before in
+    let a = at-match .before .before .before .args in
+    let r = at-match .match .rest in
+    along-z-is (a .s) (a .n) _ (at-step .step-by3 .ensures) ∙ last-axis (a .s) (a .n) _ (r .0 .1) (r .1)
 
 pub pass-along-spec : {M : Type 1} → statement M
 pass-along-spec =

@@ -2,7 +2,6 @@
 use Rattle.emit.specs.inner.Passes.{stepBy}
 use mathlib.Core.Path.{refl}
 use native.Mathlib.Omega.{arith}
-use borrow.Author.Needs.{needs}
 use Rattle.emit.proofs.passes.step_by.Statement.{statement}
 use Rattle.emit.proofs.passes.step_by.Tie as tie
 

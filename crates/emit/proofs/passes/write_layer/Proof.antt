@@ -7,7 +7,6 @@ use Rattle.moving.specs.Reading.{labelAfter}
 use mathlib.Core.Path.{refl}
 use Prim.Native.Nat.{_-_, _≤_}
 use native.Mathlib.Omega.{arith}
-use borrow.Author.Needs.{needs}
 use Rattle.emit.proofs.passes.write_layer.Statement.{statement}
 use Rattle.emit.proofs.passes.write_layer.Tie as tie
 

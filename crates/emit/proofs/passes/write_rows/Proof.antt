@@ -1,6 +1,5 @@
 -- The rows over the first entries of the table. Assumes nothing.
 use Rattle.emit.proofs.Table.{write-room, overwritten-is}
-use native.Mathlib.Omega.{arith}
 use borrow.Author.Needs.{needs}
 use Rattle.emit.proofs.passes.write_rows.Statement.{statement}
 use Rattle.emit.proofs.passes.write_rows.Tie as tie

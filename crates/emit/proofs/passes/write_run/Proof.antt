@@ -8,7 +8,6 @@ use Rattle.emit.specs.inner.Cubes.{cubeMost}
 use Rattle.emit.specs.inner.Passes.{placedIds, runIds}
 use Prim.Native.Nat.{_-_, _≤_}
 use native.Mathlib.Omega.{arith}
-use borrow.Author.Needs.{needs}
 use Rattle.emit.proofs.passes.write_run.Statement.{statement}
 use Rattle.emit.proofs.passes.write_run.Tie as tie
 

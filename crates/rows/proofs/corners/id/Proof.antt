@@ -1,7 +1,6 @@
 -- A point's id is its number, a cut's is N+7p+d, and both fit 32 bits. Assumes nothing.
-use Rattle.rows.specs.inner.Corners.{cornerId}
 use native.Mathlib.Omega.{arith}
-use mathlib.Core.Path.{sym, ap}
+use mathlib.Core.Path.{refl}
 use borrow.Author.Needs.{needs}
 use Rattle.rows.proofs.corners.id.Statement.{statement}
 use Rattle.rows.proofs.corners.id.Tie as tie
@@ -51,7 +50,7 @@ returns : tie.Need-returns
 returns c = search needs
 
 returns-2 : tie.Need-returns-2
-returns-2 c = sym (ap (cornerId _) (c .before .c2 .given .1))
+returns-2 c = rw (c .before .c2 .given .1) refl
 
 pub id-spec : {M : Type 1} → statement M
 id-spec =

@@ -1,6 +1,5 @@
 -- The line +-00 of document 01's table. Assumes nothing.
 use Rattle.rows.specs.inner.Stencils.{lines}
-use native.Mathlib.Omega.{arith}
 use borrow.Author.Needs.{needs}
 use Rattle.rows.proofs.stencils.one_plus_one_minus.Statement.{statement}
 use Rattle.rows.proofs.stencils.one_plus_one_minus.Tie as tie

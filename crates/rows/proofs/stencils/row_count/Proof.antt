@@ -3,10 +3,9 @@ use Rattle.rows.proofs.StencilLaws.{count-one}
 use Rattle.rows.specs.inner.Stencils.{rowCount}
 use Rattle.stencil.specs.Stencil.{stencilOf}
 use borrow.Author.Tests.{le-leb}
-use mathlib.Core.Path.{sym, ap}
+use mathlib.Core.Path.{refl, sym, ap}
 use Prim.Native.Nat.{ℕ}
 use native.Mathlib.Omega.{arith}
-use borrow.Author.Needs.{needs}
 use Rattle.rows.proofs.stencils.row_count.Statement.{statement}
 use Rattle.rows.proofs.stencils.row_count.Tie as tie
 
@@ -24,7 +23,7 @@ returns-3 c = (sym (ap (λ (k : ℕ). rowCount (stencilOf k)) (c .match .keys3))
 
 returns-4 : tie.Need-returns-4
 unfolding stencilOf rowCount
-returns-4 c = (simp (le-leb (c .before .before .args .pattern) 4 (omega arith)), omega arith)
+returns-4 c = (rw (le-leb (c .before .before .args .pattern) 4 (omega arith)) refl, omega arith)
 
 returns-5 : tie.Need-returns-5
 returns-5 c = (count-one _ (c .if1 .left) (c .before .match .rest .0 .0 .1) (c .before .match .rest .0 .1) (c .before .match .rest .1), omega arith)

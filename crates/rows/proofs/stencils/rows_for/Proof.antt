@@ -1,9 +1,8 @@
 -- The pattern's number chooses the line of the table. Assumes nothing.
-use Rattle.rows.specs.inner.Stencils.{lines, stencilRows}
+use Rattle.rows.specs.inner.Stencils.{lines}
 use Rattle.stencil.specs.Stencil.{stencilOf}
 use borrow.Author.Tests.{le-leb, lt-leb, ne-eqb}
-use mathlib.Core.Path.{sym, ap, _∙_}
-use Prim.Native.Nat.{ℕ}
+use mathlib.Core.Path.{_∙_}
 use native.Mathlib.Omega.{arith}
 use borrow.Author.Needs.{needs}
 use Rattle.rows.proofs.stencils.rows_for.Statement.{statement}

@@ -1,6 +1,4 @@
 -- The last two corners change places, or they do not. Assumes nothing.
-use native.Mathlib.Omega.{arith}
-use borrow.Author.Needs.{needs}
 use Rattle.rows.proofs.stencils.turn.Statement.{statement}
 use Rattle.rows.proofs.stencils.turn.Tie as tie
 

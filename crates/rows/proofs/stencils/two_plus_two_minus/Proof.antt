@@ -3,7 +3,6 @@ use mathlib.Core.Bool.{not}
 use Rattle.rows.proofs.StencilLaws.{row-is}
 use mathlib.Core.List.{[], _∷_}
 use Rattle.rows.specs.inner.Stencils.{lines}
-use native.Mathlib.Omega.{arith}
 use borrow.Author.Needs.{needs}
 use Rattle.rows.proofs.stencils.two_plus_two_minus.Statement.{statement}
 use Rattle.rows.proofs.stencils.two_plus_two_minus.Tie as tie

@@ -1,7 +1,5 @@
 -- Two flags are equal. Assumes nothing.
 use Rattle.rows.proofs.StencilLaws.{beq-true, beq-false}
-use native.Mathlib.Omega.{arith}
-use borrow.Author.Needs.{needs}
 use Rattle.rows.proofs.writing.agrees.Statement.{statement}
 use Rattle.rows.proofs.writing.agrees.Tie as tie
 
