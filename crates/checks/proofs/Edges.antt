@@ -89,7 +89,8 @@ marked-more {d = d} {must = must} {b = b} m h e =
           (getD-set-same must d b false (omega (arith, m .long)) ∙ e);
     }
 
-pub marked : {s : Sizes} {label : ℕ → Label} {p d : ℕ} {must : List Bool} → Marked s label p must d → 7 ≤ d → must ≡ crossingsAt s label p
+pub marked : {s : Sizes} {label : ℕ → Label} {p d : ℕ} {must : List Bool} → Marked s label p must d → 7 ≤ d
+    → must ≡ crossingsAt s label p
 unfolding crossingsAt
 marked {s} {label} {p} {d} {must} m h =
     ext-getD false must (crossingsAt s label p) (m .long)

@@ -5,9 +5,9 @@
 --     covers          the five ranges hold all candidates
 use Prim.Native.Nat.{ℕ, _+_, _*_, _-_, _/_, _%_, _≤_, _<_}
 use native.Mathlib.Omega.{arith}
-use mathlib.Core.Path.{_≡_, refl, sym, ap, subst, _∙_}
+use mathlib.Core.Path.{_≡_, refl, sym, ap, _∙_}
 use mathlib.Core.Bool.{Bool, false}
-use mathlib.Core.List.{List, [], _∷_}
+use mathlib.Core.List.{List}
 use lib.IntN.{ℤ, pos}
 use lib.ListN.{getD}
 use Rattle.lattice.specs.declared.Sizes.{Sizes}
@@ -77,7 +77,7 @@ module _ {s : Sizes} {samples : List ℤ} {q : Site} (h : Sized s) (l : Line s (
         let r = v .each d j in
         let y = getD (endsAt s q) d 0 - getD starts (r .range) 0 + x in
         let f : getD (endsAt s (lineAt q x)) d 0 ≡ getD starts (r .range) 0 + y
-            = omega (arith, ends-on s q (sited (line-stands l)) x d j, r .from) in
+        = omega (arith, ends-on s q (sited (line-stands l)) x d j, r .from) in
         ap (λ (p : ℕ). hasSign plus (getD samples p (pos 0))) f ∙ w .none (r .range) (r .is-range) y (omega (arith, r .to))
 
     level-calm : Calm (labels samples) (q .own + x) (endsAt s (lineAt q x))

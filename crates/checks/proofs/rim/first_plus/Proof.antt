@@ -45,9 +45,11 @@ loop-less c = omega arith
 loop-again : tie.Need-loop-again Inv-loop μ-loop
 unfolding labels
 loop-again c =
-    let i = c .before .before .before .before .loop .inv in
-    let not-plus = plus-read _ (c .before .before .is-plus-arg .given) (c .before .is-plus .ensures) (c .if1 .left) in
-    (omega arith, omega arith, one-more (i .2) not-plus)
+    let i = c .before .before .before .before .loop .inv in (
+      omega arith,
+      omega arith,
+      one-more (i .2) (plus-read _ (c .before .before .is-plus-arg .given) (c .before .is-plus .ensures) (c .if1 .left)),
+    )
 
 returns-2 : tie.Need-returns-2 Inv-loop μ-loop
 returns-2 c = let i = c .before .loop .inv in nowhere (omega arith) (upto (c .loop-test .left) (i .2))

@@ -1,7 +1,7 @@
 -- A line on the outside is searched whole; of any other the two ends are looked at. Assumes nothing.
 use Prim.Native.Nat.{ℕ, _+_, _-_}
 use native.Mathlib.Omega.{arith}
-use mathlib.Core.Path.{_≡_, sym, ap, _∙_}
+use mathlib.Core.Path.{sym, ap, _∙_}
 use Rattle.lattice.proofs.Bounds.{points-small}
 use Rattle.moving.specs.Label.{labels}
 use Rattle.ground.proofs.Lines.{line-fits}
