@@ -1,9 +1,11 @@
 -- Points and lines with nothing to find. Assumes nothing.
+--     ends-in         candidates in the table
 --     calm-none       no candidate is opposed: no edge crosses
 --     calm-fine       with bytes that are all zero a point's seven bytes are fine
 --     level-fine      the same for a line whose five ranges are level
 --     covers          the five ranges hold all candidates
 use Prim.Native.Nat.{ℕ, _+_, _*_, _-_, _/_, _%_, _≤_, _<_}
+use native.Mathlib.Nat.{le-mul-of-pos-right}
 use native.Mathlib.Omega.{arith}
 use mathlib.Core.Path.{_≡_, refl, sym, ap, _∙_}
 use mathlib.Core.Bool.{Bool, false}
@@ -36,7 +38,7 @@ use Rattle.checks.proofs.Edges.{calm-crosses}
 
 module _ {s : Sizes} {label : ℕ → Label} {q : Site} (h : Sized s) (g : Sited s q) where
   pub calm-none : Calm label (q .own) (endsAt s q) → (d : ℕ) → d < 7 → crosses s label (q .own) d ≡ false
-  calm-none w d i = calm-crosses s label q h g d i refl (w .none d i)
+  calm-none w d i = calm-crosses s label q h g d i refl refl (w .none d i)
 
   pub calm-fine : {ends : List ℕ} → ends ≡ endsAt s q → Calm label (q .own) ends
       → (bytes : List ℕ) → ((d : ℕ) → 0 ≤ d → d < 7 → getD bytes d 0 ≡ 0)
@@ -46,6 +48,22 @@ module _ {s : Sizes} {label : ℕ → Label} {q : Site} (h : Sized s) (g : Sited
         is = λ d l u.
             none-at (crossingsAt s label (q .own)) bytes d (crossing-at s label (q .own) d u ∙ calm-none (rw e at w) d u) (z d l u);
       }
+
+-- no candidate is higher than the third and the fourth
+pub ends-in : {s : Sizes} (q : Site) {ends : List ℕ} {n : ℕ} → Sized s → ends ≡ endsAt s q → getD ends 2 0 < n → getD ends 3 0 < n
+    → (d : ℕ) → d < 7 → getD ends d 0 < n
+unfolding endsAt
+ends-in {s} q {ends} {n} h e a b d i = rw e (go (q .kind) (rw e at a) (rw e at b))
+  where
+    go : (k : Kind) → getD (endsOf k s q) 2 0 < n → getD (endsOf k s q) 3 0 < n → getD (endsOf k s q) d 0 < n
+    go Corner a b =
+        let l = le-mul-of-pos-right {m = s .ny + 1} (s .nx + 1) (omega arith) in
+        by-direction (λ d. getD (endsOf Corner s q) d 0 < n)
+        (omega arith) (omega arith) (omega arith) (omega arith) (omega arith) (omega arith) (omega arith) d i
+    go Centre a b =
+        let l = le-mul-of-pos-right {m = s .ny} (s .nx) (h .y-low) in
+        by-direction (λ d. getD (endsOf Centre s q) d 0 < n)
+        (omega arith) (omega arith) (omega arith) (omega arith) (omega arith) (omega arith) (omega arith) d i
 
 -- x numbers along a line all candidates are x numbers further
 ends-on : (s : Sizes) (q : Site) → Sited s q → (x d : ℕ) → d < 7 → getD (endsAt s (lineAt q x)) d 0 ≡ getD (endsAt s q) d 0 + x

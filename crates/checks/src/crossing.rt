@@ -5,9 +5,12 @@ use ground::strides;
 use lattice::Site;
 use lattice::Sizes;
 use lattice::edges;
+use lattice::rim;
 ghost use mathlib.Core.Path.{_≡_};
 ghost use Prim.Native.Nat.{_<_, _≤_};
 ghost use lib.ListN.{length, getD};
+ghost use Rattle.lattice.specs.Rim.{rimAt};
+ghost use Rattle.lattice.specs.inner.Site.{index};
 ghost use Rattle.moving.specs.Label.{labels, opposed};
 ghost use Rattle.filling.specs.Check.{crosses};
 ghost use Rattle.ground.specs.inner.Lines.{tableMost};
@@ -26,15 +29,20 @@ pub fn is_opposed(samples: &[i16], p: usize, far: usize) -> bool
     false
 }
 
-// The edge from a point in direction d exists and crosses the skin. If it exists, this is its end.
-fn crosses(s: Sizes, samples: &[i16], q: Site, d: usize, far: usize) -> bool
+// The edge from a point in direction d exists and crosses the skin. If it exists, this is its end;
+// from a point that is not on the rim all do.
+fn crosses(s: Sizes, samples: &[i16], q: Site, outer: bool, d: usize, far: usize) -> bool
     requires { ⌜ Asked s (now samples) q ⌝ }
+    requires { ⌜ outer ≡ rimAt s (q .kind) (index q) ⌝ }
     requires { ⌜ d < 7 ⌝ }
     requires { ⌜ far ≡ getD (endsAt s q) d 0 ⌝ }
     ensures { λ r. ⌜ r ≡ crosses s (labels (now (samples .entry))) (q .own) d ⌝ }
 {
     if is_opposed(samples, q.own, far) {
-        return edges::is_edge(s, q, d + 1);
+        if outer {
+            return edges::is_edge(s, q, d + 1);
+        }
+        return true;
     }
     false
 }
@@ -44,10 +52,11 @@ pub fn crossings(s: Sizes, samples: &[i16], q: Site) -> [bool; 7]
     ensures { λ r. ⌜ r ≡ crossingsAt s (labels (now (samples .entry))) (q .own) ⌝ }
 {
     let far = strides::ahead(s, q);
+    let outer = rim::is_rim(s, q);
     let mut must = [false; 7];
     for d in 0..7 {
         let end = far[d];
-        must[d] = crosses(s, samples, q, d, end);
+        must[d] = crosses(s, samples, q, outer, d, end);
     }
     must
 }

@@ -1,8 +1,8 @@
 // Points with nothing to find: no edge crosses and all seven bytes are zero. Most points are so, and
 // most lines of points. Nobody asks which edges exist: the candidates for their far ends are looked
 // at, and that some of these are no far ends does no harm.
-use crate::crossing;
 use ground::ranges;
+use ground::signs;
 use ground::strides;
 use ground::walk;
 use lattice::Site;
@@ -24,24 +24,32 @@ ghost use Rattle.checks.specs.inner.Glance.{Calm, Covers, Level};
 // No sample of seven points is opposed to the point's own.
 fn is_calm(samples: &[i16], own: usize, ends: [usize; 7]) -> bool
     requires { ⌜ (own < length (now samples)) × (length (now samples) ≤ tableMost) ⌝ }
+    requires { ⌜ ((d : ℕ) → d < 7 → getD ends d 0 < length (now samples)) ⌝ }
     ensures { λ r. ⌜ (r ≡ true → Calm (labels (now (samples .entry))) own ends) ⌝ }
 {
     for d in 0..7 {
-        if crossing::is_opposed(samples, own, ends[d]) {
+        let far = ends[d];
+        if signs::opposite(samples[own], samples[far]) {
             return false;
         }
     }
     true
 }
 
-// The seven bytes of a point are fine, at a glance. A point where this fails may be fine as well.
+// The seven bytes of a point are fine, at a glance. A point where this fails may be fine as well. Of
+// the candidates the third is the highest along long edges, the fourth along short ones.
 pub fn is_quiet(s: Sizes, samples: &[i16], bytes: &[u8], q: Site) -> bool
     requires { ⌜ Asked s (now samples) q ⌝ }
     requires { ⌜ length (now bytes) ≡ 7 ⌝ }
     ensures { λ r. ⌜ (r ≡ true → Throughout (sevenFault (crossingsAt s (labels (now (samples .entry))) (q .own)) (now (bytes .entry))) 0 0 7) ⌝ }
 {
-    if is_calm(samples, q.own, strides::ahead(s, q)) {
-        return ranges::is_blank(bytes, 0, 7);
+    let far = strides::ahead(s, q);
+    if far[2] < samples.len() {
+        if far[3] < samples.len() {
+            if is_calm(samples, q.own, far) {
+                return ranges::is_blank(bytes, 0, 7);
+            }
+        }
     }
     false
 }

@@ -1,7 +1,7 @@
 -- An opposed candidate is the far end if the edge exists; one that is not opposed settles it. Assumes nothing.
-use mathlib.Core.Path.{sym, ap, _∙_}
-use Rattle.moving.specs.Label.{labels, opposed}
-use Rattle.checks.proofs.Edges.{asked-in, edge-crosses, calm-crosses}
+use mathlib.Core.Path.{sym, _∙_}
+use Rattle.moving.specs.Label.{labels}
+use Rattle.checks.proofs.Edges.{asked-in, edge-crosses, inner-crosses, calm-crosses}
 use borrow.Author.Needs.{needs}
 use Rattle.checks.proofs.crossing.crosses.Statement.{statement}
 use Rattle.checks.proofs.crossing.crosses.Tie as tie
@@ -17,20 +17,33 @@ is-edge-requires c κs = search needs
 
 returns : tie.Need-returns
 returns c =
-    let at-start = c .before .before .before in
+    let at-opposed = c .before .before .before in
+    let at-start = at-opposed .before in
     let a = at-start .pre .0 in
-    let f = labels (at-start .args .samples .now) in
-    let o = c .before .before .is-opposed .ensures ∙ ap (λ n. opposed (f (at-start .args .q .own)) (f n)) (at-start .pre .1 .1) in
-    c .is-edge .ensures ∙ edge-crosses _ f _ (a .sized) (a .sited) _ (at-start .pre .1 .0) o (c .before .if1 .taken)
+    let p = at-start .pre .1 in
+    c .is-edge .ensures
+    ∙ edge-crosses _ (labels (at-start .args .samples .now)) _ (a .sized) (a .sited) _ (p .1 .0) (p .1 .1) (at-opposed .is-opposed .ensures)
+    (c .before .before .if1 .taken)
 
 returns-2 : tie.Need-returns-2
 returns-2 c =
-    let at-start = c .before .before in
+    let at-opposed = c .before .before in
+    let at-start = at-opposed .before in
     let a = at-start .pre .0 in
-    let f = labels (at-start .args .samples .now) in
-    let o = c .before .is-opposed .ensures ∙ ap (λ n. opposed (f (at-start .args .q .own)) (f n)) (at-start .pre .1 .1) in
-    sym (calm-crosses _ f _ (a .sized) (a .sited) _ (at-start .pre .1 .0) o (c .if1 .left))
+    let p = at-start .pre .1 in
+    inner-crosses _ (labels (at-start .args .samples .now)) _ (a .sized) (a .sited) _ (p .1 .0) (p .1 .1) (at-opposed .is-opposed .ensures)
+    (c .before .if1 .taken) (sym (p .0) ∙ c .if2 .left)
+
+returns-3 : tie.Need-returns-3
+returns-3 c =
+    let at-opposed = c .before in
+    let at-start = at-opposed .before in
+    let a = at-start .pre .0 in
+    let p = at-start .pre .1 in
+    sym (calm-crosses _ (labels (at-start .args .samples .now)) _ (a .sized) (a .sited) _ (p .1 .0) (p .1 .1)
+    (at-opposed .is-opposed .ensures) (c .if1 .left))
 
 pub crosses-spec : {M : Type 1} → statement M
 crosses-spec =
-    tie.close (tie.spec is-opposed-requires add-is-edge is-edge-requires returns returns-2)
+    tie.close
+    (tie.spec is-opposed-requires add-is-edge is-edge-requires returns returns-2 returns-3)

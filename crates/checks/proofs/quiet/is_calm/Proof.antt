@@ -7,6 +7,8 @@ use lib.Dec.{T}
 use lib.ListN.{getD}
 use borrow.Author.Count.{below-more}
 use Rattle.moving.specs.Label.{labels, opposed}
+use Rattle.ground.proofs.Labels.{opposed-handed}
+use borrow.Author.Needs.{needs}
 use Rattle.checks.proofs.quiet.is_calm.Statement.{statement}
 use Rattle.checks.proofs.quiet.is_calm.Tie as tie
 
@@ -20,14 +22,30 @@ abbrev μ-loop : tie.MeasureT-loop
 loop-holds : tie.Need-loop-holds Inv-loop μ-loop
 loop-holds c = (omega arith, λ j l. absurd (omega arith))
 
-mul-is-opposed : tie.Need-mul-is-opposed Inv-loop μ-loop
-mul-is-opposed c = omega arith
+mul-far : tie.Need-mul-far Inv-loop μ-loop
+mul-far c = omega arith
 
-array-read-is-opposed : tie.Need-array-read-is-opposed Inv-loop μ-loop
-array-read-is-opposed c = omega arith
+array-read-far : tie.Need-array-read-far Inv-loop μ-loop
+array-read-far c = omega arith
 
-is-opposed-requires : tie.Need-is-opposed-requires Inv-loop μ-loop
-is-opposed-requires c κs = c .before .before .pre
+mul-opposite : tie.Need-mul-opposite Inv-loop μ-loop
+mul-opposite c = omega arith
+
+shared-slice-copy-out-opposite : tie.Need-shared-slice-copy-out-opposite Inv-loop μ-loop
+shared-slice-copy-out-opposite c = omega arith
+
+mul-opposite-2 : tie.Need-mul-opposite-2 Inv-loop μ-loop
+mul-opposite-2 c =
+    let at-loop = c .before .before in
+    omega (arith, at-loop .before .pre .1 (at-loop .loop .d) (c .before .loop-test .taken))
+
+shared-slice-copy-out-opposite-2 : tie.Need-shared-slice-copy-out-opposite-2 Inv-loop μ-loop
+shared-slice-copy-out-opposite-2 c =
+    let at-loop = c .before .before in
+    at-loop .before .pre .1 (at-loop .loop .d) (c .before .loop-test .taken)
+
+opposite-requires : tie.Need-opposite-requires Inv-loop μ-loop
+opposite-requires c κs = search needs
 
 returns : tie.Need-returns Inv-loop μ-loop
 returns c = λ t. absurd (subst T (sym t) tt)
@@ -39,9 +57,13 @@ loop-less : tie.Need-loop-less Inv-loop μ-loop
 loop-less c = omega arith
 
 loop-again : tie.Need-loop-again Inv-loop μ-loop
+unfolding labels
 loop-again c =
-    let at-loop = c .before .before .before in
-    (omega arith, below-more _ _ (at-loop .loop .inv .1) (sym (c .before .is-opposed .ensures) ∙ c .if1 .left))
+    let at-far = c .before .before in
+    let at-own = at-far .before in
+    let at-loop = at-own .before .before in
+    let same = opposed-handed _ _ (at-own .opposite-arg .given) (at-far .opposite-arg2 .given) in
+    (omega arith, below-more _ _ (at-loop .loop .inv .1) (sym same ∙ sym (c .before .opposite .ensures) ∙ c .if1 .left))
 
 returns-2 : tie.Need-returns-2 Inv-loop μ-loop
 returns-2 c = λ t. record { none = λ d l. c .before .loop .inv .1 d (omega arith) }
@@ -53,9 +75,13 @@ is-calm-spec =
     Inv-loop
     μ-loop
     loop-holds
-    mul-is-opposed
-    array-read-is-opposed
-    is-opposed-requires
+    mul-far
+    array-read-far
+    mul-opposite
+    shared-slice-copy-out-opposite
+    mul-opposite-2
+    shared-slice-copy-out-opposite-2
+    opposite-requires
     returns
     add-d
     loop-less
