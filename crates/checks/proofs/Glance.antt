@@ -38,7 +38,7 @@ use Rattle.checks.proofs.Edges.{calm-crosses}
 
 module _ {s : Sizes} {label : ℕ → Label} {q : Site} (h : Sized s) (g : Sited s q) where
   pub calm-none : Calm label (q .own) (endsAt s q) → (d : ℕ) → d < 7 → crosses s label (q .own) d ≡ false
-  calm-none w d i = calm-crosses s label q h g d i refl refl (w .none d i)
+  calm-none w d i = calm-crosses s q h g d i refl label (w .none d i)
 
   pub calm-fine : {ends : List ℕ} → ends ≡ endsAt s q → Calm label (q .own) ends
       → (bytes : List ℕ) → ((d : ℕ) → 0 ≤ d → d < 7 → getD bytes d 0 ≡ 0)
