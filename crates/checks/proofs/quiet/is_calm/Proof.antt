@@ -42,7 +42,7 @@ mul-opposite-2 c =
 shared-slice-copy-out-opposite-2 : tie.Need-shared-slice-copy-out-opposite-2 Inv-loop μ-loop
 shared-slice-copy-out-opposite-2 c =
     let at-loop = c .before .before in
-    at-loop .before .pre .1 (at-loop .loop .d) (c .before .loop-test .taken)
+    omega (arith, at-loop .before .pre .1 (at-loop .loop .d) (c .before .loop-test .taken))
 
 opposite-requires : tie.Need-opposite-requires Inv-loop μ-loop
 opposite-requires c κs = search needs
@@ -61,9 +61,12 @@ unfolding labels
 loop-again c =
     let at-far = c .before .before in
     let at-own = at-far .before in
-    let at-loop = at-own .before .before in
-    let same = opposed-handed _ _ (at-own .opposite-arg .given) (at-far .opposite-arg2 .given) in
-    (omega arith, below-more _ _ (at-loop .loop .inv .1) (sym same ∙ sym (c .before .opposite .ensures) ∙ c .if1 .left))
+    let at-loop = at-own .before .before in (
+      omega arith,
+      below-more _ _ (at-loop .loop .inv .1)
+          (sym (opposed-handed _ _ (at-own .opposite-arg .given) (at-far .opposite-arg2 .given))
+          ∙ sym (c .before .opposite .ensures) ∙ c .if1 .left),
+    )
 
 returns-2 : tie.Need-returns-2 Inv-loop μ-loop
 returns-2 c = λ t. record { none = λ d l. c .before .loop .inv .1 d (omega arith) }
