@@ -30,9 +30,8 @@ use Rattle.ground.proofs.Labels.{same-sign}
 use Rattle.ground.proofs.Points.{sited}
 use Rattle.ground.proofs.Lines.{line-stands, line-at}
 use Rattle.ground.proofs.FarEnds.{line-fits-across, site-numbers}
-use Rattle.checks.specs.inner.Search.{Throughout}
-use Rattle.checks.specs.inner.Faults.{LineFine, sevenFault, crossingsAt}
-use Rattle.checks.specs.inner.Glance.{Calm, Level, Held, Covers}
+use Rattle.checks.specs.inner.Faults.{PointFine, LineFine, crossingsAt}
+use Rattle.checks.specs.inner.Glance.{Calm, Level, Held, rangeMost, Covers}
 use Rattle.checks.proofs.Faults.{none-at, byte-fine, crossing-at}
 use Rattle.checks.proofs.Edges.{calm-crosses}
 
@@ -41,8 +40,7 @@ module _ {s : Sizes} {label : ℕ → Label} {q : Site} (h : Sized s) (g : Sited
   calm-none w d i = calm-crosses s q h g d i refl label (w .none d i)
 
   pub calm-fine : {ends : List ℕ} → ends ≡ endsAt s q → Calm label (q .own) ends
-      → (bytes : List ℕ) → ((d : ℕ) → 0 ≤ d → d < 7 → getD bytes d 0 ≡ 0)
-      → Throughout (sevenFault (crossingsAt s label (q .own)) bytes) 0 0 7
+      → (bytes : List ℕ) → ((d : ℕ) → 0 ≤ d → d < 7 → getD bytes d 0 ≡ 0) → PointFine s label bytes q
   calm-fine e w bytes z =
       record {
         is = λ d l u.
@@ -126,19 +124,13 @@ module _ (s : Sizes) (q : Site) where
   pairs Centre = (refl, omega arith, omega arith, omega arith, omega arith)
 
   module _ (h : Sized s) (g : Sited s q) where
-    end-small : (d : ℕ) → d < 7 → getD (endsAt s q) d 0 ≤ 1100000
+    end-small : (d : ℕ) → d < 7 → getD (endsAt s q) d 0 < rangeMost + 1
     unfolding endsAt
-    end-small = go (q .kind)
+    end-small = ends-in q h refl (high (q .kind) .0) (high (q .kind) .1)
       where
-        go : (k : Kind) (d : ℕ) → d < 7 → getD (endsOf k s q) d 0 ≤ 1100000
-        go Corner =
-            let n = site-numbers s q h g in
-            by-direction (λ d. getD (endsOf Corner s q) d 0 ≤ 1100000)
-            (omega arith) (omega arith) (omega arith) (omega arith) (omega arith) (omega arith) (omega arith)
-        go Centre =
-            let n = site-numbers s q h g in
-            by-direction (λ d. getD (endsOf Centre s q) d 0 ≤ 1100000)
-            (omega arith) (omega arith) (omega arith) (omega arith) (omega arith) (omega arith) (omega arith)
+        high : (k : Kind) → (getD (endsOf k s q) 2 0 < rangeMost + 1) × (getD (endsOf k s q) 3 0 < rangeMost + 1)
+        high Corner = let n = site-numbers s q h g in (omega arith, omega arith)
+        high Centre = let n = site-numbers s q h g in (omega arith, omega arith)
 
     module _ {ends starts : List ℕ} (e : ends ≡ endsAt s q) (at-0 : getD starts 0 0 ≡ q .own) (at-1 : getD starts 1 0 ≡ getD ends 1 0)
         (at-2 : getD starts 2 0 ≡ getD ends 2 0) (at-3 : getD starts 3 0 ≡ getD ends 4 0) (at-4 : getD starts 4 0 ≡ getD ends 6 0) where
@@ -160,7 +152,7 @@ module _ (s : Sizes) (q : Site) where
                 (held 3 _ (omega arith) (omega (arith, at 4)) (omega (arith, at 4)))
                 (held 4 _ (omega arith) (omega (arith, at 6)) (omega (arith, at 6)))
                 (held 4 _ (omega arith) (omega (arith, at 6)) (omega (arith, at 6)));
-            small = λ k i. by-direction (λ k. k < 5 → getD starts k 0 ≤ 1100000)
+            small = λ k i. by-direction (λ k. k < 5 → getD starts k 0 ≤ rangeMost)
                 (λ i. omega (arith, site-numbers s q h g))
                 (λ i. omega (arith, at 1, end-small 1 (omega arith)))
                 (λ i. omega (arith, at 2, end-small 2 (omega arith)))

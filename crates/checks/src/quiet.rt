@@ -17,9 +17,8 @@ ghost use Rattle.moving.specs.Block.{blockOf, Tabled};
 ghost use Rattle.moving.specs.Label.{labels};
 ghost use Rattle.ground.specs.inner.Lines.{Line, tableMost};
 ghost use Rattle.ground.specs.inner.Strides.{endsAt};
-ghost use Rattle.checks.specs.inner.Search.{Throughout};
-ghost use Rattle.checks.specs.inner.Faults.{Asked, LineFine, crossingsAt, sevenFault};
-ghost use Rattle.checks.specs.inner.Glance.{Calm, Covers, Level};
+ghost use Rattle.checks.specs.inner.Faults.{Asked, PointFine, LineFine};
+ghost use Rattle.checks.specs.inner.Glance.{Calm, Covers, Level, rangeMost};
 
 // No sample of seven points is opposed to the point's own.
 fn is_calm(samples: &[i16], own: usize, ends: [usize; 7]) -> bool
@@ -41,7 +40,7 @@ fn is_calm(samples: &[i16], own: usize, ends: [usize; 7]) -> bool
 pub fn is_quiet(s: Sizes, samples: &[i16], bytes: &[u8], q: Site) -> bool
     requires { ⌜ Asked s (now samples) q ⌝ }
     requires { ⌜ length (now bytes) ≡ 7 ⌝ }
-    ensures { λ r. ⌜ (r ≡ true → Throughout (sevenFault (crossingsAt s (labels (now (samples .entry))) (q .own)) (now (bytes .entry))) 0 0 7) ⌝ }
+    ensures { λ r. ⌜ (r ≡ true → PointFine s (labels (now (samples .entry))) (now (bytes .entry)) q) ⌝ }
 {
     let far = strides::ahead(s, q);
     if far[2] < samples.len() {
@@ -68,7 +67,7 @@ fn range_starts(s: Sizes, q: Site) -> [usize; 5]
 // In none of five ranges of m + 1 samples there is one above zero, or there is none below.
 fn is_level(plus: bool, samples: &[i16], starts: [usize; 5], m: usize) -> bool
     requires { ⌜ (length (now samples) ≤ tableMost) × (m ≤ 65) ⌝ }
-    requires { ⌜ ((k : ℕ) → k < 5 → getD starts k 0 ≤ 1100000) ⌝ }
+    requires { ⌜ ((k : ℕ) → k < 5 → getD starts k 0 ≤ rangeMost) ⌝ }
     ensures { λ r. ⌜ (r ≡ true → Level plus (now (samples .entry)) starts m) ⌝ }
 {
     for k in 0..5 {

@@ -3,7 +3,7 @@ use Prim.Native.Nat.{ℕ}
 use native.Mathlib.Omega.{arith}
 use mathlib.Core.Path.{_≡_, sym, ap, _∙_}
 use mathlib.Core.Bool.{true, false}
-use Rattle.lattice.specs.Axis.{along-y, along-z}
+use Rattle.lattice.specs.Axis.{along-y}
 use Rattle.lattice.specs.Counts.{grid}
 use Rattle.lattice.specs.Rim.{outermost}
 use Rattle.lattice.proofs.Sites.{odd-small, own-grid, site-small}
