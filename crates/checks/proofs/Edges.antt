@@ -82,8 +82,8 @@ asked-in {s} {q = q} a =
 
 -- so has the far end of an edge that exists
 pub far-asked : {s : Sizes} {samples : List ℤ} {q : Site} (a : Asked s samples q) {d far : ℕ} → d < 7 → far ≡ getD (endsAt s q) d 0
-    → exists s (q .kind) (index q) (d + 1) ≡ true → (far < length samples) × (length samples ≤ tableMost)
-far-asked {s} {q = q} a {d} i f t = (omega (arith, a .long, edge-in s q (a .sized) (a .sited) d i f t), asked-in a .1)
+    → exists s (q .kind) (index q) (d + 1) ≡ true → far < length samples
+far-asked {s} {q = q} a {d} i f t = omega (arith, a .long, edge-in s q (a .sized) (a .sited) d i f t)
 
 -- the answers in the directions before d
 pub record Marked (s : Sizes) (label : ℕ → Label) (p : ℕ) (must : List Bool) (d : ℕ) : Type 0 where

@@ -1,6 +1,6 @@
 // Which edges from a point cross the skin. Their far ends stand a stride away: a table of strides
 // gives candidates, which are far ends where the edges exist.
-use ground::signs;
+use crate::points;
 use ground::strides;
 use lattice::Site;
 use lattice::Sizes;
@@ -42,8 +42,7 @@ fn crosses(s: Sizes, samples: &[i16], q: Site, outer: bool, d: usize, far: usize
     ensures { λ r. ⌜ r ≡ crosses s (labels (now (samples .entry))) (q .own) d ⌝ }
 {
     if is_there(s, q, outer, d) {
-        let own = q.own;
-        return signs::opposite(samples[own], samples[far]);
+        return points::are_opposed(samples, q.own, far);
     }
     false
 }

@@ -1,8 +1,8 @@
 // Points with nothing to find: no edge crosses and all seven bytes are zero. Most points are so, and
 // most lines of points. Nobody asks which edges exist: the candidates for their far ends are looked
 // at, and that some of these are no far ends does no harm.
+use crate::points;
 use ground::ranges;
-use ground::signs;
 use ground::strides;
 use ground::walk;
 use lattice::Site;
@@ -28,7 +28,7 @@ fn is_calm(samples: &[i16], own: usize, ends: [usize; 7]) -> bool
 {
     for d in 0..7 {
         let far = ends[d];
-        if signs::opposite(samples[own], samples[far]) {
+        if points::are_opposed(samples, own, far) {
             return false;
         }
     }

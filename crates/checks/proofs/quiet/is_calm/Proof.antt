@@ -7,8 +7,6 @@ use lib.Dec.{T}
 use lib.ListN.{getD}
 use borrow.Author.Count.{below-more}
 use Rattle.moving.specs.Label.{labels, opposed}
-use Rattle.ground.proofs.Labels.{opposed-handed}
-use borrow.Author.Needs.{needs}
 use Rattle.checks.proofs.quiet.is_calm.Statement.{statement}
 use Rattle.checks.proofs.quiet.is_calm.Tie as tie
 
@@ -28,24 +26,11 @@ mul-far c = omega arith
 array-read-far : tie.Need-array-read-far Inv-loop μ-loop
 array-read-far c = omega arith
 
-mul-opposite : tie.Need-mul-opposite Inv-loop μ-loop
-mul-opposite c = omega arith
-
-shared-slice-copy-out-opposite : tie.Need-shared-slice-copy-out-opposite Inv-loop μ-loop
-shared-slice-copy-out-opposite c = omega arith
-
-mul-opposite-2 : tie.Need-mul-opposite-2 Inv-loop μ-loop
-mul-opposite-2 c =
-    let at-loop = c .before .before in
-    omega (arith, at-loop .before .pre .1 (at-loop .loop .d) (c .before .loop-test .taken))
-
-shared-slice-copy-out-opposite-2 : tie.Need-shared-slice-copy-out-opposite-2 Inv-loop μ-loop
-shared-slice-copy-out-opposite-2 c =
-    let at-loop = c .before .before in
-    omega (arith, at-loop .before .pre .1 (at-loop .loop .d) (c .before .loop-test .taken))
-
-opposite-requires : tie.Need-opposite-requires Inv-loop μ-loop
-opposite-requires c κs = search needs
+are-opposed-requires : tie.Need-are-opposed-requires Inv-loop μ-loop
+are-opposed-requires c κs =
+    let at-loop = c .before in
+    let p = at-loop .before .pre in
+    (p .0, omega (arith, p .1 (at-loop .loop .d) (c .loop-test .taken)))
 
 returns : tie.Need-returns Inv-loop μ-loop
 returns c = λ t. absurd (subst T (sym t) tt)
@@ -57,16 +42,9 @@ loop-less : tie.Need-loop-less Inv-loop μ-loop
 loop-less c = omega arith
 
 loop-again : tie.Need-loop-again Inv-loop μ-loop
-unfolding labels
 loop-again c =
-    let at-far = c .before .before in
-    let at-own = at-far .before in
-    let at-loop = at-own .before .before in (
-      omega arith,
-      below-more _ _ (at-loop .loop .inv .1)
-          (sym (opposed-handed _ _ (at-own .opposite-arg .given) (at-far .opposite-arg2 .given))
-          ∙ sym (c .before .opposite .ensures) ∙ c .if1 .left),
-    )
+    let at-loop = c .before .before .before in
+    (omega arith, below-more _ _ (at-loop .loop .inv .1) (sym (c .before .are-opposed .ensures) ∙ c .if1 .left))
 
 returns-2 : tie.Need-returns-2 Inv-loop μ-loop
 returns-2 c = λ t. record { none = λ d l. c .before .loop .inv .1 d (omega arith) }
@@ -80,11 +58,7 @@ is-calm-spec =
     loop-holds
     mul-far
     array-read-far
-    mul-opposite
-    shared-slice-copy-out-opposite
-    mul-opposite-2
-    shared-slice-copy-out-opposite-2
-    opposite-requires
+    are-opposed-requires
     returns
     add-d
     loop-less
