@@ -1,27 +1,31 @@
 -- Edges that cross the skin, by the candidates for their far ends. Assumes nothing.
---     edge-crosses, calm-crosses     a candidate that is opposed to its point, or not
---     past-table                     what has no sample is opposed to nothing
---     asked-in                       a decoded point has a sample
+--     inner-there                    from a point that is not on the rim all edges exist
+--     edge-crosses                   an edge that exists leads to its candidate
+--     no-edge-crosses, calm-crosses  no edge, or a candidate that is not opposed
+--     asked-in, far-asked            a decoded point and the far ends of its edges have samples
 --     Marked, marked-more, marked    the seven answers, one after the other
 use Prim.Native.Nat.{ℕ, _+_, _≤_, _<_}
 use native.Mathlib.Omega.{arith}
 use mathlib.Core.Path.{_≡_, refl, sym, ap, _∙_}
-use mathlib.Core.Bool.{Bool, true, false, _&&_}
+use mathlib.Core.Bool.{Bool, true, false}
 use mathlib.Core.List.{List}
-use lib.IntN.{ℤ, pos}
-use lib.ListN.{length, getD, set, List·getD-eq-default, length-set}
+use lib.IntN.{ℤ}
+use lib.ListN.{length, getD, set, length-set}
 use lib.Seq.{getD-set-same, getD-set-other, ext-getD}
 use borrow.Author.Count.{below-more}
 use Rattle.lattice.specs.declared.Sizes.{Sizes}
 use Rattle.lattice.specs.declared.Site.{Site}
-use Rattle.lattice.specs.Counts.{Sized}
-use Rattle.lattice.specs.Edge.{exists}
+use Rattle.lattice.specs.declared.Near.the-variants.{At}
+use Rattle.lattice.specs.Counts.{Sized, points}
+use Rattle.lattice.specs.Direction.{Code}
+use Rattle.lattice.specs.Edge.{exists, neighbour}
+use Rattle.lattice.specs.Rim.{rimAt}
 use Rattle.lattice.specs.inner.Site.{Sited, index}
 use Rattle.lattice.proofs.Bounds.{points-small}
-use Rattle.lattice.proofs.Sites.{near-yes, near-no}
+use Rattle.lattice.proofs.Edge.{neighbour-lt}
+use Rattle.lattice.proofs.Sites.{site-inside, near-yes, near-no}
 use Rattle.moving.specs.declared.Label.{Label}
-use Rattle.moving.specs.declared.Label.the-variants.{Minus, Zero, Plus}
-use Rattle.moving.specs.Label.{labelOf, labels, isPlus, isMinus, opposed}
+use Rattle.moving.specs.Label.{opposed}
 use Rattle.filling.specs.Check.{crosses, crossesTo}
 use Rattle.ground.specs.inner.Lines.{tableMost}
 use Rattle.ground.specs.inner.Strides.{endsAt}
@@ -29,51 +33,57 @@ use Rattle.ground.proofs.Sites.{site-lt, site-near}
 use Rattle.ground.proofs.FarEnds.{end-is}
 use Rattle.checks.specs.inner.Faults.{Asked, crossingsAt}
 use Rattle.checks.proofs.Faults.{crossing-at}
+use Rattle.checks.proofs.Inner.{inner-exists}
 
-and-true : (c : Bool) → (c && true) ≡ c
-and-true true = refl
-and-true false = refl
+module _ (s : Sizes) (q : Site) (h : Sized s) (g : Sited s q) (d : ℕ) (i : d < 7) where
+  abbrev there : Bool
+  there = exists s (q .kind) (index q) (d + 1)
 
-and-false : (c : Bool) → (c && false) ≡ false
-and-false true = refl
-and-false false = refl
+  code : Code (d + 1)
+  code = record { low = omega arith; high = omega arith }
 
-module _ (s : Sizes) (label : ℕ → Label) (q : Site) (h : Sized s) (g : Sited s q) (d : ℕ) (i : d < 7) where
+  -- all edges of a point that is not on the rim exist
+  pub inner-there : rimAt s (q .kind) (index q) ≡ false → true ≡ there
+  inner-there r = sym (inner-exists s (q .kind) (index q) (site-inside s q h g) r (d + 1) code)
+
   -- an edge that exists leads to its candidate
-  crosses-is : (t : Bool) → exists s (q .kind) (index q) (d + 1) ≡ t
-      → crosses s label (q .own) d ≡ (t && opposed (label (q .own)) (label (getD (endsAt s q) d 0)))
-  unfolding crossesTo
-  crosses-is true e =
-      let n = near-yes s (q .kind) (index q) (d + 1) e in
-      ap (crossesTo s label (q .own)) (site-near s q h g (d + 1) ∙ n)
-      ∙ ap (λ (m : ℕ). opposed (label (q .own)) (label m)) (sym (end-is s q g d i _ n))
-  crosses-is false e = ap (crossesTo s label (q .own)) (site-near s q h g (d + 1) ∙ near-no s (q .kind) (index q) (d + 1) e)
+  leads : there ≡ true → neighbour s (q .own) (d + 1) ≡ At (getD (endsAt s q) d 0)
+  leads t =
+      let n = near-yes s (q .kind) (index q) (d + 1) t in
+      site-near s q h g (d + 1) ∙ n ∙ ap At (sym (end-is s q g d i _ n))
 
-  module _ {b : Bool} (o : b ≡ opposed (label (q .own)) (label (getD (endsAt s q) d 0))) where
-    pub edge-crosses : b ≡ true → exists s (q .kind) (index q) (d + 1) ≡ crosses s label (q .own) d
-    edge-crosses t =
-        let there = exists s (q .kind) (index q) (d + 1) in
-        sym (crosses-is there refl ∙ ap (λ (c : Bool). there && c) (sym o ∙ t) ∙ and-true there)
+  module _ {far : ℕ} (f : far ≡ getD (endsAt s q) d 0) where
+    edge-in : there ≡ true → far < points s
+    edge-in t = rw f (neighbour-lt s (q .own) (d + 1) _ (site-lt s q h g) code (leads t))
 
-    pub calm-crosses : b ≡ false → crosses s label (q .own) d ≡ false
-    calm-crosses f =
-        let there = exists s (q .kind) (index q) (d + 1) in
-        crosses-is there refl ∙ ap (λ (c : Bool). there && c) (sym o ∙ f) ∙ and-false there
+    module _ (label : ℕ → Label) where
+      pub edge-crosses : there ≡ true → opposed (label (q .own)) (label far) ≡ crosses s label (q .own) d
+      unfolding crossesTo
+      edge-crosses t = ap (λ (m : ℕ). opposed (label (q .own)) (label m)) f ∙ sym (ap (crossesTo s label (q .own)) (leads t))
 
-pub past-table : (samples : List ℤ) (l : Label) (far : ℕ) → length samples ≤ far → opposed l (labels samples far) ≡ false
-unfolding labels labelOf opposed isPlus isMinus
-past-table samples l far h = ap (λ (z : ℤ). opposed l (labelOf z)) (List·getD-eq-default samples (pos 0) h) ∙ go l
-  where
-    go : (l : Label) → opposed l Zero ≡ false
-    go Minus = refl
-    go Zero = refl
-    go Plus = refl
+      pub no-edge-crosses : there ≡ false → false ≡ crosses s label (q .own) d
+      unfolding crossesTo
+      no-edge-crosses t =
+          sym (ap (crossesTo s label (q .own)) (site-near s q h g (d + 1) ∙ near-no s (q .kind) (index q) (d + 1) t))
+
+      -- a candidate that is not opposed settles it
+      pub calm-crosses : opposed (label (q .own)) (label far) ≡ false → crosses s label (q .own) d ≡ false
+      calm-crosses o = go there refl
+        where
+          go : (t : Bool) → there ≡ t → crosses s label (q .own) d ≡ false
+          go true t = sym (edge-crosses t) ∙ o
+          go false t = sym (no-edge-crosses t)
 
 -- a decoded point has a sample
 pub asked-in : {s : Sizes} {samples : List ℤ} {q : Site} → Asked s samples q
     → (q .own < length samples) × (length samples ≤ tableMost)
 asked-in {s} {q = q} a =
     (omega (arith, a .long, site-lt s q (a .sized) (a .sited)), omega (arith, a .long, points-small s (a .sized)))
+
+-- so has the far end of an edge that exists
+pub far-asked : {s : Sizes} {samples : List ℤ} {q : Site} (a : Asked s samples q) {d far : ℕ} → d < 7 → far ≡ getD (endsAt s q) d 0
+    → exists s (q .kind) (index q) (d + 1) ≡ true → far < length samples
+far-asked {s} {q = q} a {d} i f t = omega (arith, a .long, edge-in s q (a .sized) (a .sited) d i f t)
 
 -- the answers in the directions before d
 pub record Marked (s : Sizes) (label : ℕ → Label) (p : ℕ) (must : List Bool) (d : ℕ) : Type 0 where
@@ -89,7 +99,8 @@ marked-more {d = d} {must = must} {b = b} m h e =
           (getD-set-same must d b false (omega (arith, m .long)) ∙ e);
     }
 
-pub marked : {s : Sizes} {label : ℕ → Label} {p d : ℕ} {must : List Bool} → Marked s label p must d → 7 ≤ d → must ≡ crossingsAt s label p
+pub marked : {s : Sizes} {label : ℕ → Label} {p d : ℕ} {must : List Bool} → Marked s label p must d → 7 ≤ d
+    → must ≡ crossingsAt s label p
 unfolding crossingsAt
 marked {s} {label} {p} {d} {must} m h =
     ext-getD false must (crossingsAt s label p) (m .long)

@@ -68,7 +68,8 @@ pub wrong-here : {fault : ℕ → ℕ} {e n o : ℕ} → o < e → fault o ≡ n
 wrong-here h i t = record { low = omega arith; high = h; number = i; before = t }
 
 -- the first fault of a part is that of the whole, if there is none before the part
-pub wide : {fault : ℕ → ℕ} {b a e z n o : ℕ} → Throughout fault 0 b a → b ≤ a → e ≤ z → Wrong fault a e n o → Wrong fault b z n o
+pub wide : {fault : ℕ → ℕ} {b a e z n o : ℕ} → Throughout fault 0 b a → b ≤ a → e ≤ z
+    → Wrong fault a e n o → Wrong fault b z n o
 wide t h i w =
     record { low = omega (arith, w .low); high = omega (arith, w .high); number = w .number; before = joined t (w .before) }
 

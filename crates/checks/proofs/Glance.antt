@@ -1,13 +1,15 @@
 -- Points and lines with nothing to find. Assumes nothing.
+--     ends-in         candidates in the table
 --     calm-none       no candidate is opposed: no edge crosses
 --     calm-fine       with bytes that are all zero a point's seven bytes are fine
 --     level-fine      the same for a line whose five ranges are level
 --     covers          the five ranges hold all candidates
 use Prim.Native.Nat.{ℕ, _+_, _*_, _-_, _/_, _%_, _≤_, _<_}
+use native.Mathlib.Nat.{le-mul-of-pos-right}
 use native.Mathlib.Omega.{arith}
-use mathlib.Core.Path.{_≡_, refl, sym, ap, subst, _∙_}
+use mathlib.Core.Path.{_≡_, refl, sym, ap, _∙_}
 use mathlib.Core.Bool.{Bool, false}
-use mathlib.Core.List.{List, [], _∷_}
+use mathlib.Core.List.{List}
 use lib.IntN.{ℤ, pos}
 use lib.ListN.{getD}
 use Rattle.lattice.specs.declared.Sizes.{Sizes}
@@ -28,24 +30,38 @@ use Rattle.ground.proofs.Labels.{same-sign}
 use Rattle.ground.proofs.Points.{sited}
 use Rattle.ground.proofs.Lines.{line-stands, line-at}
 use Rattle.ground.proofs.FarEnds.{line-fits-across, site-numbers}
-use Rattle.checks.specs.inner.Search.{Throughout}
-use Rattle.checks.specs.inner.Faults.{LineFine, sevenFault, crossingsAt}
-use Rattle.checks.specs.inner.Glance.{Calm, Level, Held, Covers}
+use Rattle.checks.specs.inner.Faults.{PointFine, LineFine, crossingsAt}
+use Rattle.checks.specs.inner.Glance.{Calm, Level, Held, rangeMost, Covers}
 use Rattle.checks.proofs.Faults.{none-at, byte-fine, crossing-at}
 use Rattle.checks.proofs.Edges.{calm-crosses}
 
 module _ {s : Sizes} {label : ℕ → Label} {q : Site} (h : Sized s) (g : Sited s q) where
   pub calm-none : Calm label (q .own) (endsAt s q) → (d : ℕ) → d < 7 → crosses s label (q .own) d ≡ false
-  calm-none w d i = calm-crosses s label q h g d i refl (w .none d i)
+  calm-none w d i = calm-crosses s q h g d i refl label (w .none d i)
 
   pub calm-fine : {ends : List ℕ} → ends ≡ endsAt s q → Calm label (q .own) ends
-      → (bytes : List ℕ) → ((d : ℕ) → 0 ≤ d → d < 7 → getD bytes d 0 ≡ 0)
-      → Throughout (sevenFault (crossingsAt s label (q .own)) bytes) 0 0 7
+      → (bytes : List ℕ) → ((d : ℕ) → 0 ≤ d → d < 7 → getD bytes d 0 ≡ 0) → PointFine s label bytes q
   calm-fine e w bytes z =
       record {
         is = λ d l u.
             none-at (crossingsAt s label (q .own)) bytes d (crossing-at s label (q .own) d u ∙ calm-none (rw e at w) d u) (z d l u);
       }
+
+-- no candidate is higher than the third and the fourth
+pub ends-in : {s : Sizes} (q : Site) {ends : List ℕ} {n : ℕ} → Sized s → ends ≡ endsAt s q → getD ends 2 0 < n → getD ends 3 0 < n
+    → (d : ℕ) → d < 7 → getD ends d 0 < n
+unfolding endsAt
+ends-in {s} q {ends} {n} h e a b d i = rw e (go (q .kind) (rw e at a) (rw e at b))
+  where
+    go : (k : Kind) → getD (endsOf k s q) 2 0 < n → getD (endsOf k s q) 3 0 < n → getD (endsOf k s q) d 0 < n
+    go Corner a b =
+        let l = le-mul-of-pos-right {m = s .ny + 1} (s .nx + 1) (omega arith) in
+        by-direction (λ d. getD (endsOf Corner s q) d 0 < n)
+        (omega arith) (omega arith) (omega arith) (omega arith) (omega arith) (omega arith) (omega arith) d i
+    go Centre a b =
+        let l = le-mul-of-pos-right {m = s .ny} (s .nx) (h .y-low) in
+        by-direction (λ d. getD (endsOf Centre s q) d 0 < n)
+        (omega arith) (omega arith) (omega arith) (omega arith) (omega arith) (omega arith) (omega arith) d i
 
 -- x numbers along a line all candidates are x numbers further
 ends-on : (s : Sizes) (q : Site) → Sited s q → (x d : ℕ) → d < 7 → getD (endsAt s (lineAt q x)) d 0 ≡ getD (endsAt s q) d 0 + x
@@ -77,7 +93,7 @@ module _ {s : Sizes} {samples : List ℤ} {q : Site} (h : Sized s) (l : Line s (
         let r = v .each d j in
         let y = getD (endsAt s q) d 0 - getD starts (r .range) 0 + x in
         let f : getD (endsAt s (lineAt q x)) d 0 ≡ getD starts (r .range) 0 + y
-            = omega (arith, ends-on s q (sited (line-stands l)) x d j, r .from) in
+        = omega (arith, ends-on s q (sited (line-stands l)) x d j, r .from) in
         ap (λ (p : ℕ). hasSign plus (getD samples p (pos 0))) f ∙ w .none (r .range) (r .is-range) y (omega (arith, r .to))
 
     level-calm : Calm (labels samples) (q .own + x) (endsAt s (lineAt q x))
@@ -108,19 +124,13 @@ module _ (s : Sizes) (q : Site) where
   pairs Centre = (refl, omega arith, omega arith, omega arith, omega arith)
 
   module _ (h : Sized s) (g : Sited s q) where
-    end-small : (d : ℕ) → d < 7 → getD (endsAt s q) d 0 ≤ 1100000
+    end-small : (d : ℕ) → d < 7 → getD (endsAt s q) d 0 < rangeMost + 1
     unfolding endsAt
-    end-small = go (q .kind)
+    end-small = ends-in q h refl (high (q .kind) .0) (high (q .kind) .1)
       where
-        go : (k : Kind) (d : ℕ) → d < 7 → getD (endsOf k s q) d 0 ≤ 1100000
-        go Corner =
-            let n = site-numbers s q h g in
-            by-direction (λ d. getD (endsOf Corner s q) d 0 ≤ 1100000)
-            (omega arith) (omega arith) (omega arith) (omega arith) (omega arith) (omega arith) (omega arith)
-        go Centre =
-            let n = site-numbers s q h g in
-            by-direction (λ d. getD (endsOf Centre s q) d 0 ≤ 1100000)
-            (omega arith) (omega arith) (omega arith) (omega arith) (omega arith) (omega arith) (omega arith)
+        high : (k : Kind) → (getD (endsOf k s q) 2 0 < rangeMost + 1) × (getD (endsOf k s q) 3 0 < rangeMost + 1)
+        high Corner = let n = site-numbers s q h g in (omega arith, omega arith)
+        high Centre = let n = site-numbers s q h g in (omega arith, omega arith)
 
     module _ {ends starts : List ℕ} (e : ends ≡ endsAt s q) (at-0 : getD starts 0 0 ≡ q .own) (at-1 : getD starts 1 0 ≡ getD ends 1 0)
         (at-2 : getD starts 2 0 ≡ getD ends 2 0) (at-3 : getD starts 3 0 ≡ getD ends 4 0) (at-4 : getD starts 4 0 ≡ getD ends 6 0) where
@@ -142,7 +152,7 @@ module _ (s : Sizes) (q : Site) where
                 (held 3 _ (omega arith) (omega (arith, at 4)) (omega (arith, at 4)))
                 (held 4 _ (omega arith) (omega (arith, at 6)) (omega (arith, at 6)))
                 (held 4 _ (omega arith) (omega (arith, at 6)) (omega (arith, at 6)));
-            small = λ k i. by-direction (λ k. k < 5 → getD starts k 0 ≤ 1100000)
+            small = λ k i. by-direction (λ k. k < 5 → getD starts k 0 ≤ rangeMost)
                 (λ i. omega (arith, site-numbers s q h g))
                 (λ i. omega (arith, at 1, end-small 1 (omega arith)))
                 (λ i. omega (arith, at 2, end-small 2 (omega arith)))

@@ -1,16 +1,11 @@
 -- Rim points above zero in a line of points. Assumes nothing.
---     plus-read                              the code's test of a sample
 --     outer-fault                            all points of a line on the outside are on the rim
 --     inner-first, inner-last, inner-none    of any other line the two ends are
-use Prim.Native.Nat.{ℕ, _+_, _-_, _^_, _≤_, _<_}
+use Prim.Native.Nat.{ℕ, _+_, _-_, _≤_, _<_}
 use native.Mathlib.Omega.{arith}
 use mathlib.Core.Path.{_≡_, refl, sym, ap, _∙_}
 use mathlib.Core.Bool.{Bool, true, false, _||_}
 use lib.Dec.{eqb}
-use lib.IntN.{ℤ}
-use lib.Signed.{mag}
-use mir.Syntax.{w16}
-use mir.Val.{ofZ, toZ}
 use borrow.Author.Tests.{eq-eqb, ne-eqb}
 use Rattle.lattice.specs.declared.Sizes.{Sizes}
 use Rattle.lattice.specs.declared.Site.{Site}
@@ -18,18 +13,13 @@ use Rattle.lattice.specs.Axis.{along-x, along-y, along-z}
 use Rattle.lattice.specs.Counts.{Sized, grid}
 use Rattle.lattice.specs.Rim.{outermost, rimAt, rim}
 use Rattle.moving.specs.declared.Label.{Label}
-use Rattle.moving.specs.Label.{labelOf, isPlus}
+use Rattle.moving.specs.Label.{isPlus}
 use Rattle.filling.specs.Check.{rimFault}
 use Rattle.ground.specs.inner.Lines.{Line}
-use Rattle.ground.proofs.Labels.{plus-handed}
 use Rattle.ground.proofs.Points.{rim-at}
 use Rattle.ground.proofs.Lines.{line-at, some}
 use Rattle.checks.specs.inner.Search.{Throughout, FirstIn}
 use Rattle.checks.proofs.Search.{none-yet, one-more, joined, upto, here, nowhere}
-
--- the code's test of a sample that it read
-pub plus-read : (x : ℤ) {b v : Bool} → mag x < 2 ^ 15 → b ≡ isPlus (labelOf (toZ w16 (ofZ w16 x))) → b ≡ v → isPlus (labelOf x) ≡ v
-plus-read x h e f = sym (plus-handed x h) ∙ sym e ∙ f
 
 or-true : (b : Bool) → (b || true) ≡ true
 or-true true = refl

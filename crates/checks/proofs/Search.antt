@@ -35,7 +35,8 @@ module _ {f : ℕ → Bool} where
   pub nowhere : {a e : ℕ} → a ≤ e → Throughout f false a e → FirstIn f a e e
   nowhere h w = record { low = h; high = omega arith; passes = λ u. absurd (omega arith); before = w }
 
-  pub first-same : {g : ℕ → Bool} {a e z r : ℕ} → ((j : ℕ) → a ≤ j → j < z → g j ≡ f j) → e ≡ z → FirstIn f a e r → FirstIn g a z r
+  pub first-same : {g : ℕ → Bool} {a e z r : ℕ} → ((j : ℕ) → a ≤ j → j < z → g j ≡ f j) → e ≡ z
+      → FirstIn f a e r → FirstIn g a z r
   first-same s d w =
       record {
         low = w .low;

@@ -13,13 +13,13 @@ ghost use lib.ListN.{length};
 ghost use Rattle.moving.specs.Block.{blockOf, Tabled};
 ghost use Rattle.moving.specs.Label.{labels};
 ghost use Rattle.ground.specs.inner.Lines.{Line};
-ghost use Rattle.checks.specs.inner.Faults.{Asked, Answered, LineAnswered, CutAnswer, crossingsAt, sevenFault};
+ghost use Rattle.checks.specs.inner.Faults.{Asked, PointAnswered, LineAnswered, CutAnswer};
 
 // The first byte at fault of a point's seven, which are lent to it. Most points need only a glance.
 fn site_fault(s: Sizes, samples: &[i16], bytes: &[u8], q: Site) -> Fault
     requires { ⌜ Asked s (now samples) q ⌝ }
     requires { ⌜ length (now bytes) ≡ 7 ⌝ }
-    ensures { λ r. ⌜ Answered (sevenFault (crossingsAt s (labels (now (samples .entry))) (q .own)) (now (bytes .entry))) 0 7 r ⌝ }
+    ensures { λ r. ⌜ PointAnswered s (labels (now (samples .entry))) (now (bytes .entry)) q r ⌝ }
 {
     if quiet::is_quiet(s, samples, bytes, q) {
         return Fault::Fine;

@@ -2,6 +2,7 @@
 // or too many.
 pub mod crossing;
 pub mod cuts;
+pub mod points;
 pub mod quiet;
 pub mod rim;
 pub mod seven;

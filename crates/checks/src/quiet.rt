@@ -1,7 +1,7 @@
 // Points with nothing to find: no edge crosses and all seven bytes are zero. Most points are so, and
 // most lines of points. Nobody asks which edges exist: the candidates for their far ends are looked
 // at, and that some of these are no far ends does no harm.
-use crate::crossing;
+use crate::points;
 use ground::ranges;
 use ground::strides;
 use ground::walk;
@@ -17,31 +17,38 @@ ghost use Rattle.moving.specs.Block.{blockOf, Tabled};
 ghost use Rattle.moving.specs.Label.{labels};
 ghost use Rattle.ground.specs.inner.Lines.{Line, tableMost};
 ghost use Rattle.ground.specs.inner.Strides.{endsAt};
-ghost use Rattle.checks.specs.inner.Search.{Throughout};
-ghost use Rattle.checks.specs.inner.Faults.{Asked, LineFine, crossingsAt, sevenFault};
-ghost use Rattle.checks.specs.inner.Glance.{Calm, Covers, Level};
+ghost use Rattle.checks.specs.inner.Faults.{Asked, PointFine, LineFine};
+ghost use Rattle.checks.specs.inner.Glance.{Calm, Covers, Level, rangeMost};
 
 // No sample of seven points is opposed to the point's own.
 fn is_calm(samples: &[i16], own: usize, ends: [usize; 7]) -> bool
     requires { ⌜ (own < length (now samples)) × (length (now samples) ≤ tableMost) ⌝ }
+    requires { ⌜ ((d : ℕ) → d < 7 → getD ends d 0 < length (now samples)) ⌝ }
     ensures { λ r. ⌜ (r ≡ true → Calm (labels (now (samples .entry))) own ends) ⌝ }
 {
     for d in 0..7 {
-        if crossing::is_opposed(samples, own, ends[d]) {
+        let far = ends[d];
+        if points::are_opposed(samples, own, far) {
             return false;
         }
     }
     true
 }
 
-// The seven bytes of a point are fine, at a glance. A point where this fails may be fine as well.
+// The seven bytes of a point are fine, at a glance. A point where this fails may be fine as well. Of
+// the candidates the third is the highest along long edges, the fourth along short ones.
 pub fn is_quiet(s: Sizes, samples: &[i16], bytes: &[u8], q: Site) -> bool
     requires { ⌜ Asked s (now samples) q ⌝ }
     requires { ⌜ length (now bytes) ≡ 7 ⌝ }
-    ensures { λ r. ⌜ (r ≡ true → Throughout (sevenFault (crossingsAt s (labels (now (samples .entry))) (q .own)) (now (bytes .entry))) 0 0 7) ⌝ }
+    ensures { λ r. ⌜ (r ≡ true → PointFine s (labels (now (samples .entry))) (now (bytes .entry)) q) ⌝ }
 {
-    if is_calm(samples, q.own, strides::ahead(s, q)) {
-        return ranges::is_blank(bytes, 0, 7);
+    let far = strides::ahead(s, q);
+    if far[2] < samples.len() {
+        if far[3] < samples.len() {
+            if is_calm(samples, q.own, far) {
+                return ranges::is_blank(bytes, 0, 7);
+            }
+        }
     }
     false
 }
@@ -60,7 +67,7 @@ fn range_starts(s: Sizes, q: Site) -> [usize; 5]
 // In none of five ranges of m + 1 samples there is one above zero, or there is none below.
 fn is_level(plus: bool, samples: &[i16], starts: [usize; 5], m: usize) -> bool
     requires { ⌜ (length (now samples) ≤ tableMost) × (m ≤ 65) ⌝ }
-    requires { ⌜ ((k : ℕ) → k < 5 → getD starts k 0 ≤ 1100000) ⌝ }
+    requires { ⌜ ((k : ℕ) → k < 5 → getD starts k 0 ≤ rangeMost) ⌝ }
     ensures { λ r. ⌜ (r ≡ true → Level plus (now (samples .entry)) starts m) ⌝ }
 {
     for k in 0..5 {

@@ -1,6 +1,6 @@
 // Rim points whose sample is above zero. Of a line inside its layer and its block only the two ends
 // are on the rim.
-use ground::signs;
+use crate::points;
 use ground::walk;
 use lattice::Site;
 use lattice::Sizes;
@@ -40,7 +40,7 @@ fn first_plus(samples: &[i16], from: usize, to: usize) -> usize
     ensures { λ r. ⌜ FirstIn (λ (p : ℕ). isPlus (labels (now (samples .entry)) p)) from to r ⌝ }
 {
     for p in from..to {
-        if signs::is_plus(samples[p]) {
+        if points::is_plus(samples, p) {
             return p;
         }
     }
@@ -60,11 +60,11 @@ fn line_rim(s: Sizes, samples: &[i16], q: Site) -> usize
     if is_outer(s, q) {
         return first_plus(samples, own, end);
     }
-    if signs::is_plus(samples[own]) {
+    if points::is_plus(samples, own) {
         return own;
     }
     let last = end - 1;
-    if signs::is_plus(samples[last]) {
+    if points::is_plus(samples, last) {
         return last;
     }
     end

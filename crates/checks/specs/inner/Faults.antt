@@ -2,9 +2,9 @@
 --     numberOf, placeOf      the number and the place of an answer
 --     CutAnswer              the answer for a whole cut table
 --     Wrong, Answered        the answer for a part of it
---     LineFine, LineAnswered the same for the bytes of a line of points
 --     numberAt, sevenFault   a byte's fault, and that of one of a point's seven bytes
 --     crossingsAt            which of the seven edges from a point cross the skin
+--     PointFine, LineFine, PointAnswered, LineAnswered     the answers for a point and for a line of points
 --     Asked                  a decoded point of a block whose samples are all there
 use Prim.Native.Nat.{ℕ, _+_, _*_, _≤_, _<_}
 use mathlib.Core.Path.{_≡_}
@@ -56,13 +56,6 @@ pub data Answered (fault : ℕ → ℕ) (a e : ℕ) : Fault → Type 0 where
   gap : {o : ℕ} → Wrong fault a e 6 o → Answered fault a e (Gap o)
   stray : {o : ℕ} → Wrong fault a e 7 o → Answered fault a e (Stray o)
 
-module _ (s : Sizes) (label : ℕ → Label) (cuts : List ℕ) (q : Site) where
-  abbrev pub LineFine : Type 0
-  LineFine = Throughout (cutFault s label cuts) 0 (7 * q .own) (7 * (q .own + grid s (q .kind) along-x))
-
-  abbrev pub LineAnswered : Fault → Type 0
-  LineAnswered = Answered (cutFault s label cuts) (7 * q .own) (7 * (q .own + grid s (q .kind) along-x))
-
 -- the number of a byte's fault, where there must be a cut or must be none
 unfoldable pub numberAt : Bool → ℕ → ℕ
 numberAt must byte = if must then (if eqb byte 0 then 6 else 0) else (if eqb byte 0 then 0 else 7)
@@ -82,6 +75,22 @@ module _ (s : Sizes) (label : ℕ → Label) where
       ∷ crosses s label p 5
       ∷ crosses s label p 6
       ∷ []
+
+-- a point's seven bytes, lent to its test
+module _ (s : Sizes) (label : ℕ → Label) (bytes : List ℕ) (q : Site) where
+  abbrev pub PointFine : Type 0
+  PointFine = Throughout (sevenFault (crossingsAt s label (q .own)) bytes) 0 0 7
+
+  abbrev pub PointAnswered : Fault → Type 0
+  PointAnswered = Answered (sevenFault (crossingsAt s label (q .own)) bytes) 0 7
+
+-- the bytes of the line of points that starts at q
+module _ (s : Sizes) (label : ℕ → Label) (cuts : List ℕ) (q : Site) where
+  abbrev pub LineFine : Type 0
+  LineFine = Throughout (cutFault s label cuts) 0 (7 * q .own) (7 * (q .own + grid s (q .kind) along-x))
+
+  abbrev pub LineAnswered : Fault → Type 0
+  LineAnswered = Answered (cutFault s label cuts) (7 * q .own) (7 * (q .own + grid s (q .kind) along-x))
 
 pub record Asked (s : Sizes) (samples : List ℤ) (q : Site) : Type 0 where
   pub sized : Sized s

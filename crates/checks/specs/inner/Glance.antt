@@ -1,4 +1,5 @@
--- What a glance at a point or at a line of points sees. Candidates for far ends stand a stride away, whether their edges exist or not.
+-- What a glance at a point or at a line of points sees. Candidates for far ends stand a stride away, whether their edges
+-- exist or not.
 --     Calm       no candidate of a point is opposed to it
 --     Level      no sample of five ranges has the sign
 --     Covers     where the five ranges of a line start: every candidate stands there or one number further
@@ -26,7 +27,11 @@ pub record Held (starts : List ℕ) (p : ℕ) : Type 0 where
   pub from : getD starts range 0 ≤ p
   pub to : p ≤ getD starts range 0 + 1
 
+-- no range starts further on
+abbrev pub rangeMost : ℕ
+rangeMost = 1100000
+
 pub record Covers (p : ℕ) (ends starts : List ℕ) : Type 0 where
   pub self : getD starts 0 0 ≡ p
   pub each : (d : ℕ) → d < 7 → Held starts (getD ends d 0)
-  pub small : (k : ℕ) → k < 5 → getD starts k 0 ≤ 1100000
+  pub small : (k : ℕ) → k < 5 → getD starts k 0 ≤ rangeMost

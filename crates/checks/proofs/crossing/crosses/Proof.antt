@@ -1,36 +1,35 @@
--- An opposed candidate is the far end if the edge exists; one that is not opposed settles it. Assumes nothing.
-use mathlib.Core.Path.{sym, ap, _∙_}
-use Rattle.moving.specs.Label.{labels, opposed}
-use Rattle.checks.proofs.Edges.{asked-in, edge-crosses, calm-crosses}
+-- The two points are compared where the edge exists. Assumes nothing.
+use mathlib.Core.Path.{sym, _∙_}
+use Rattle.moving.specs.Label.{labels}
+use Rattle.checks.proofs.Edges.{asked-in, far-asked, edge-crosses, no-edge-crosses}
 use borrow.Author.Needs.{needs}
 use Rattle.checks.proofs.crossing.crosses.Statement.{statement}
 use Rattle.checks.proofs.crossing.crosses.Tie as tie
 
-is-opposed-requires : tie.Need-is-opposed-requires
-is-opposed-requires c κs = asked-in (c .pre .0)
+is-there-requires : tie.Need-is-there-requires
+is-there-requires c κs = search needs
 
-add-is-edge : tie.Need-add-is-edge
-add-is-edge c = search needs
-
-is-edge-requires : tie.Need-is-edge-requires
-is-edge-requires c κs = search needs
+are-opposed-requires : tie.Need-are-opposed-requires
+are-opposed-requires c κs =
+    let at-there = c .before in
+    let p = at-there .before .pre in
+    (asked-in (p .0), far-asked (p .0) (p .1 .1 .0) (p .1 .1 .1) (sym (at-there .is-there .ensures) ∙ c .if1 .taken))
 
 returns : tie.Need-returns
 returns c =
-    let at-start = c .before .before .before in
-    let a = at-start .pre .0 in
-    let f = labels (at-start .args .samples .now) in
-    let o = c .before .before .is-opposed .ensures ∙ ap (λ n. opposed (f (at-start .args .q .own)) (f n)) (at-start .pre .1 .1) in
-    c .is-edge .ensures ∙ edge-crosses _ f _ (a .sized) (a .sited) _ (at-start .pre .1 .0) o (c .before .if1 .taken)
+    let at-there = c .before .before in
+    let at-start = at-there .before in
+    let p = at-start .pre in
+    c .are-opposed .ensures
+    ∙ edge-crosses _ _ (p .0 .sized) (p .0 .sited) _ (p .1 .1 .0) (p .1 .1 .1) (labels (at-start .args .samples .now))
+    (sym (at-there .is-there .ensures) ∙ c .before .if1 .taken)
 
 returns-2 : tie.Need-returns-2
 returns-2 c =
     let at-start = c .before .before in
-    let a = at-start .pre .0 in
-    let f = labels (at-start .args .samples .now) in
-    let o = c .before .is-opposed .ensures ∙ ap (λ n. opposed (f (at-start .args .q .own)) (f n)) (at-start .pre .1 .1) in
-    sym (calm-crosses _ f _ (a .sized) (a .sited) _ (at-start .pre .1 .0) o (c .if1 .left))
+    let p = at-start .pre in
+    no-edge-crosses _ _ (p .0 .sized) (p .0 .sited) _ (p .1 .1 .0) (p .1 .1 .1) (labels (at-start .args .samples .now))
+    (sym (c .before .is-there .ensures) ∙ c .if1 .left)
 
 pub crosses-spec : {M : Type 1} → statement M
-crosses-spec =
-    tie.close (tie.spec is-opposed-requires add-is-edge is-edge-requires returns returns-2)
+crosses-spec = tie.close (tie.spec is-there-requires are-opposed-requires returns returns-2)

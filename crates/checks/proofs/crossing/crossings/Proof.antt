@@ -10,13 +10,16 @@ use Rattle.checks.proofs.crossing.crossings.Statement.{statement}
 use Rattle.checks.proofs.crossing.crossings.Tie as tie
 
 abbrev Inv-loop : tie.InvT-loop
-Inv-loop s samples q far must₀ d₀ must d = (d ≤ 7) × Marked s (labels samples) (q .own) must d
+Inv-loop s samples q far outer must₀ d₀ must d = (d ≤ 7) × Marked s (labels samples) (q .own) must d
 
 abbrev μ-loop : tie.MeasureT-loop
-μ-loop s samples q far must₀ d₀ must d = 7 - d
+μ-loop s samples q far outer must₀ d₀ must d = 7 - d
 
 ahead-requires : tie.Need-ahead-requires Inv-loop μ-loop
 ahead-requires c κs = (c .pre .sized, c .pre .sited)
+
+is-rim-requires : tie.Need-is-rim-requires Inv-loop μ-loop
+is-rim-requires c κs = (c .before .pre .sized, c .before .pre .sited)
 
 loop-holds : tie.Need-loop-holds Inv-loop μ-loop
 loop-holds c = (omega arith, record { long = refl; done = λ e l. absurd (omega arith) })
@@ -29,8 +32,11 @@ array-read-end c = omega arith
 
 crosses-requires : tie.Need-crosses-requires Inv-loop μ-loop
 crosses-requires c κs =
-    let at-start = c .before .before .before in
-    (at-start .pre, (c .loop-test .taken, ap (λ (l : List ℕ). getD l (c .before .loop .d) 0) (c .before .before .ahead .ensures)))
+    let at-loop = c .before in
+    let at-rim = at-loop .before in
+    let at-ends = at-rim .before in
+    let far = ap (λ (l : List ℕ). getD l (at-loop .loop .d) 0) (at-ends .ahead .ensures) in
+    (at-ends .before .pre, (at-rim .is-rim .ensures, (c .loop-test .taken, far)))
 
 array-write-must : tie.Need-array-write-must Inv-loop μ-loop
 array-write-must c = omega arith
@@ -43,7 +49,8 @@ loop-less c = omega arith
 
 loop-again : tie.Need-loop-again Inv-loop μ-loop
 loop-again c =
-    (omega arith, marked-more (c .before .before .loop .inv .1) (c .before .loop-test .taken) (c .crosses .ensures))
+    let in-loop = c .before in
+    (omega arith, marked-more (in-loop .before .loop .inv .1) (in-loop .loop-test .taken) (c .crosses .ensures))
 
 returns : tie.Need-returns Inv-loop μ-loop
 returns c = marked (c .before .loop .inv .1) (c .loop-test .left)
@@ -55,6 +62,7 @@ crossings-spec =
     Inv-loop
     μ-loop
     ahead-requires
+    is-rim-requires
     loop-holds
     mul-end
     array-read-end

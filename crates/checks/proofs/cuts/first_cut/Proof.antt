@@ -44,7 +44,8 @@ returns c =
     let at-loop = at-line .before in
     let at-start = at-loop .before .before .before .before in
     let f = line-fits (at-loop .loop .inv .0) (at-start .pre .sized) in
-    answer-gap _ _ _ (wide (at-loop .loop .inv .1) (omega arith) (omega arith) (gap-of (at-line .line-fault .ensures) (c .before .found .given .1)))
+    let w = gap-of (at-line .line-fault .ensures) (c .before .found .given .1) in
+    answer-gap _ _ _ (wide (at-loop .loop .inv .1) (omega arith) (omega arith) w)
 
 enum-known-found-2 : tie.Need-enum-known-found-2 Inv-loop μ-loop
 enum-known-found-2 c = search needs
@@ -55,7 +56,8 @@ returns-2 c =
     let at-loop = at-line .before in
     let at-start = at-loop .before .before .before .before in
     let f = line-fits (at-loop .loop .inv .0) (at-start .pre .sized) in
-    answer-stray _ _ _ (wide (at-loop .loop .inv .1) (omega arith) (omega arith) (stray-of (at-line .line-fault .ensures) (c .before .found2 .given .1)))
+    let w = stray-of (at-line .line-fault .ensures) (c .before .found2 .given .1) in
+    answer-stray _ _ _ (wide (at-loop .loop .inv .1) (omega arith) (omega arith) w)
 
 line-length-requires : tie.Need-line-length-requires Inv-loop μ-loop
 line-length-requires c κs = c .before .before .before .before .before .before .before .pre .sized
@@ -76,7 +78,8 @@ returns-3 c =
     let at-count = at-loop .before .before in
     let e = at-length .line-length .ensures .0 in
     let n = at-count .point-count .ensures in
-    answer-fine _ _ _ (omega arith) (joined (at-loop .loop .inv .1) (fine-of (at-line .line-fault .ensures) (at-length .before .enum-told .given .1)))
+    let w = fine-of (at-line .line-fault .ensures) (at-length .before .enum-told .given .1) in
+    answer-fine _ _ _ (omega arith) (joined (at-loop .loop .inv .1) w)
 
 next-line-requires : tie.Need-next-line-requires Inv-loop μ-loop
 next-line-requires c κs =
@@ -104,11 +107,9 @@ loop-again c =
     let at-loop = at-line .before in
     let at-start = at-loop .before .before .before .before in
     let e = at-length .line-length .ensures .0 in
-    let o = next-own (at-start .pre .sized) (at-loop .loop .inv .0) e (c .next-line .ensures) in (
-      line-self (c .next-line .ensures),
-      joined (at-loop .loop .inv .1)
-          (upto (omega arith) (fine-of (at-line .line-fault .ensures) (at-length .before .enum-told .given .1))),
-    )
+    let o = next-own (at-start .pre .sized) (at-loop .loop .inv .0) e (c .next-line .ensures) in
+    let w = fine-of (at-line .line-fault .ensures) (at-length .before .enum-told .given .1) in
+    (line-self (c .next-line .ensures), joined (at-loop .loop .inv .1) (upto (omega arith) w))
 
 pub first-cut-spec : {M : Type 1} → statement M
 first-cut-spec =

@@ -12,13 +12,14 @@ use Rattle.checks.specs.inner.Search.{Throughout}
 use Rattle.checks.specs.inner.Faults.{fine, gap, stray}
 use Rattle.checks.proofs.Search.{none-yet, joined, upto}
 use Rattle.checks.proofs.Faults.{fine-of, gap-of, stray-of, wide, raise-fine, raise-wrong, seven-is}
-use Rattle.checks.proofs.Walk.{room, line-point}
+use Rattle.checks.proofs.Walk.{Room, room, line-point}
 use borrow.Author.Needs.{needs}
 use Rattle.checks.proofs.cuts.line_search.Statement.{statement}
 use Rattle.checks.proofs.cuts.line_search.Tie as tie
 
 abbrev Inv-loop : tie.InvT-loop
-Inv-loop s samples cuts q own m x₀ x = (x ≤ m) × Throughout (cutFault s (labels samples) cuts) 0 (7 * own) (7 * (own + x))
+Inv-loop s samples cuts q own m x₀ x =
+    Room s own m × (x ≤ m) × Throughout (cutFault s (labels samples) cuts) 0 (7 * own) (7 * (own + x))
 
 abbrev μ-loop : tie.MeasureT-loop
 μ-loop s samples cuts q own m x₀ x = m - x
@@ -27,28 +28,18 @@ line-length-requires : tie.Need-line-length-requires Inv-loop μ-loop
 line-length-requires c κs = c .before .pre .0 .sized
 
 loop-holds : tie.Need-loop-holds Inv-loop μ-loop
-loop-holds c = (omega arith, none-yet (omega arith))
+loop-holds c =
+    let at-start = c .before .before in
+    (room (at-start .pre .0 .sized) (at-start .pre .1) (c .line-length .ensures .0), omega arith, none-yet (omega arith))
 
 add-a : tie.Need-add-a Inv-loop μ-loop
-add-a c =
-    let at-length = c .before .before in
-    let at-start = at-length .before .before in
-    let r = room (at-start .pre .0 .sized) (at-start .pre .1) (at-length .line-length .ensures .0) in
-    omega arith
+add-a c = omega arith
 
 mul-a : tie.Need-mul-a Inv-loop μ-loop
-mul-a c =
-    let at-length = c .before .before in
-    let at-start = at-length .before .before in
-    let r = room (at-start .pre .0 .sized) (at-start .pre .1) (at-length .line-length .ensures .0) in
-    omega arith
+mul-a c = omega arith
 
 add-e : tie.Need-add-e Inv-loop μ-loop
-add-e c =
-    let at-length = c .before .before in
-    let at-start = at-length .before .before in
-    let r = room (at-start .pre .0 .sized) (at-start .pre .1) (at-length .line-length .ensures .0) in
-    omega arith
+add-e c = omega arith
 
 sub-site-fault : tie.Need-sub-site-fault Inv-loop μ-loop
 sub-site-fault c = omega arith
@@ -57,11 +48,7 @@ part-site-fault-start : tie.Need-part-site-fault-start Inv-loop μ-loop
 part-site-fault-start c = omega arith
 
 part-site-fault-end : tie.Need-part-site-fault-end Inv-loop μ-loop
-part-site-fault-end c =
-    let at-length = c .before .before in
-    let at-start = at-length .before .before in
-    let r = room (at-start .pre .0 .sized) (at-start .pre .1) (at-length .line-length .ensures .0) in
-    omega (arith, at-start .pre .0 .cuts-long)
+part-site-fault-end c = omega (arith, c .before .before .before .before .pre .0 .cuts-long)
 
 along-requires : tie.Need-along-requires Inv-loop μ-loop
 along-requires c κs =
@@ -76,10 +63,8 @@ site-fault-requires c κs =
     let in-loop = c .before .before in
     let at-length = in-loop .before .before in
     let at-start = at-length .before .before in
-    let t = at-start .pre .0 in
-    let e = at-length .line-length .ensures .0 in
-    let r = room (t .sized) (at-start .pre .1) e in (
-      line-point (t .sized) (at-start .pre .1) e (t .samples-long) (in-loop .loop-test .taken) (c .along .ensures),
+    let t = at-start .pre .0 in (
+      line-point (t .sized) (at-start .pre .1) (at-length .line-length .ensures .0) (t .samples-long) (in-loop .loop-test .taken) (c .along .ensures),
       simp (length-take, length-drop) (omega (arith, t .cuts-long)),
     )
 
@@ -92,11 +77,7 @@ enum-known-found c = search needs
 add-t20 : tie.Need-add-t20 Inv-loop μ-loop
 add-t20 c =
     let at-site = c .before .before .before in
-    let at-length = at-site .before .before .before .before .before in
-    let at-start = at-length .before .before in
-    let w = gap-of (at-site .site-fault .ensures) (c .before .found .given .1) in
-    let r = room (at-start .pre .0 .sized) (at-start .pre .1) (at-length .line-length .ensures .0) in
-    omega (arith, w .high)
+    omega (arith, gap-of (at-site .site-fault .ensures) (c .before .found .given .1) .high)
 
 returns : tie.Need-returns Inv-loop μ-loop
 returns c =
@@ -107,7 +88,7 @@ returns c =
     let at-start = at-length .before .before in
     let e = at-length .line-length .ensures .0 in
     let same = seven-is _ _ _ (along-own (at-start .pre .1) (omega arith) (at-along .along .ensures)) in
-    gap (wide (at-loop .loop .inv .1) (omega arith) (omega arith)
+    gap (wide (at-loop .loop .inv .2) (omega arith) (omega arith)
     (raise-wrong same (gap-of (at-site .site-fault .ensures) (c .before .found .given .1))))
 
 enum-known-found-2 : tie.Need-enum-known-found-2 Inv-loop μ-loop
@@ -116,11 +97,7 @@ enum-known-found-2 c = search needs
 add-t21 : tie.Need-add-t21 Inv-loop μ-loop
 add-t21 c =
     let at-site = c .before .before .before in
-    let at-length = at-site .before .before .before .before .before in
-    let at-start = at-length .before .before in
-    let w = stray-of (at-site .site-fault .ensures) (c .before .found2 .given .1) in
-    let r = room (at-start .pre .0 .sized) (at-start .pre .1) (at-length .line-length .ensures .0) in
-    omega (arith, w .high)
+    omega (arith, stray-of (at-site .site-fault .ensures) (c .before .found2 .given .1) .high)
 
 returns-2 : tie.Need-returns-2 Inv-loop μ-loop
 returns-2 c =
@@ -131,7 +108,7 @@ returns-2 c =
     let at-start = at-length .before .before in
     let e = at-length .line-length .ensures .0 in
     let same = seven-is _ _ _ (along-own (at-start .pre .1) (omega arith) (at-along .along .ensures)) in
-    stray (wide (at-loop .loop .inv .1) (omega arith) (omega arith)
+    stray (wide (at-loop .loop .inv .2) (omega arith) (omega arith)
     (raise-wrong same (stray-of (at-site .site-fault .ensures) (c .before .found2 .given .1))))
 
 add-x : tie.Need-add-x Inv-loop μ-loop
@@ -149,12 +126,13 @@ loop-again c =
     let at-start = at-length .before .before in
     let e = at-length .line-length .ensures .0 in
     let same = seven-is _ _ _ (along-own (at-start .pre .1) (omega arith) (at-along .along .ensures)) in
-    (omega arith, joined (at-loop .loop .inv .1) (upto (omega arith) (raise-fine same (fine-of (at-site .site-fault .ensures) (c .enum-told .given .1)))))
+    let w = raise-fine same (fine-of (at-site .site-fault .ensures) (c .enum-told .given .1)) in
+    (at-loop .loop .inv .0, omega arith, joined (at-loop .loop .inv .2) (upto (omega arith) w))
 
 returns-3 : tie.Need-returns-3 Inv-loop μ-loop
 returns-3 c =
     let e = c .before .before .line-length .ensures .0 in
-    fine (upto (omega arith) (c .before .loop .inv .1))
+    fine (upto (omega arith) (c .before .loop .inv .2))
 
 pub line-search-spec : {M : Type 1} → statement M
 line-search-spec =

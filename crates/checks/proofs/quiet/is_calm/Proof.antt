@@ -20,14 +20,17 @@ abbrev μ-loop : tie.MeasureT-loop
 loop-holds : tie.Need-loop-holds Inv-loop μ-loop
 loop-holds c = (omega arith, λ j l. absurd (omega arith))
 
-mul-is-opposed : tie.Need-mul-is-opposed Inv-loop μ-loop
-mul-is-opposed c = omega arith
+mul-far : tie.Need-mul-far Inv-loop μ-loop
+mul-far c = omega arith
 
-array-read-is-opposed : tie.Need-array-read-is-opposed Inv-loop μ-loop
-array-read-is-opposed c = omega arith
+array-read-far : tie.Need-array-read-far Inv-loop μ-loop
+array-read-far c = omega arith
 
-is-opposed-requires : tie.Need-is-opposed-requires Inv-loop μ-loop
-is-opposed-requires c κs = c .before .before .pre
+are-opposed-requires : tie.Need-are-opposed-requires Inv-loop μ-loop
+are-opposed-requires c κs =
+    let at-loop = c .before in
+    let p = at-loop .before .pre in
+    (p .0, omega (arith, p .1 (at-loop .loop .d) (c .loop-test .taken)))
 
 returns : tie.Need-returns Inv-loop μ-loop
 returns c = λ t. absurd (subst T (sym t) tt)
@@ -41,7 +44,7 @@ loop-less c = omega arith
 loop-again : tie.Need-loop-again Inv-loop μ-loop
 loop-again c =
     let at-loop = c .before .before .before in
-    (omega arith, below-more _ _ (at-loop .loop .inv .1) (sym (c .before .is-opposed .ensures) ∙ c .if1 .left))
+    (omega arith, below-more _ _ (at-loop .loop .inv .1) (sym (c .before .are-opposed .ensures) ∙ c .if1 .left))
 
 returns-2 : tie.Need-returns-2 Inv-loop μ-loop
 returns-2 c = λ t. record { none = λ d l. c .before .loop .inv .1 d (omega arith) }
@@ -53,9 +56,9 @@ is-calm-spec =
     Inv-loop
     μ-loop
     loop-holds
-    mul-is-opposed
-    array-read-is-opposed
-    is-opposed-requires
+    mul-far
+    array-read-far
+    are-opposed-requires
     returns
     add-d
     loop-less

@@ -48,12 +48,12 @@ loop-less c = omega arith
 
 loop-again : tie.Need-loop-again Inv-loop μ-loop
 loop-again c =
-    let a = c .before .before .before .before .args in
-    let i = c .before .before .before .loop in (
-      omega arith,
-      below-more (λ j. (y : ℕ) → y ≤ a .m → hasSign (a .plus) (getD (a .samples .now) (getD (a .t3) j 0 + y) (pos 0)) ≡ false) (i .k) (i .inv .1)
-          (λ y h. c .before .has-some .ensures (c .if1 .left) _ (omega arith) (omega arith)),
-    )
+    let at-loop = c .before .before .before in
+    let a = at-loop .before .args in
+    let P : ℕ → Type 0
+    = λ j. (y : ℕ) → y ≤ a .m → hasSign (a .plus) (getD (a .samples .now) (getD (a .t3) j 0 + y) (pos 0)) ≡ false in
+    let more = c .before .has-some .ensures (c .if1 .left) in
+    (omega arith, below-more P (at-loop .loop .k) (at-loop .loop .inv .1) (λ y h. more _ (omega arith) (omega arith)))
 
 returns-2 : tie.Need-returns-2 Inv-loop μ-loop
 returns-2 c = λ t. record { none = λ k l. c .before .loop .inv .1 k (omega arith) }

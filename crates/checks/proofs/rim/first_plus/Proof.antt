@@ -1,12 +1,11 @@
 -- The loop's invariant: no point before p is above zero. Assumes nothing.
 use Prim.Native.Nat.{ℕ, _-_, _≤_}
 use native.Mathlib.Omega.{arith}
+use mathlib.Core.Path.{sym, _∙_}
 use mathlib.Core.Bool.{false}
 use Rattle.moving.specs.Label.{labels, isPlus}
 use Rattle.checks.specs.inner.Search.{Throughout}
 use Rattle.checks.proofs.Search.{none-yet, one-more, here, nowhere, upto}
-use Rattle.checks.proofs.Outer.{plus-read}
-use borrow.Author.Needs.{needs}
 use Rattle.checks.proofs.rim.first_plus.Statement.{statement}
 use Rattle.checks.proofs.rim.first_plus.Tie as tie
 
@@ -19,22 +18,14 @@ abbrev μ-loop : tie.MeasureT-loop
 loop-holds : tie.Need-loop-holds Inv-loop μ-loop
 loop-holds c = (omega arith, omega arith, none-yet (omega arith))
 
-mul-is-plus : tie.Need-mul-is-plus Inv-loop μ-loop
-mul-is-plus c = omega arith
-
-shared-slice-copy-out-is-plus : tie.Need-shared-slice-copy-out-is-plus Inv-loop μ-loop
-shared-slice-copy-out-is-plus c = omega arith
-
 is-plus-requires : tie.Need-is-plus-requires Inv-loop μ-loop
-is-plus-requires c κs = search needs
+is-plus-requires c κs = (omega arith, omega arith)
 
 returns : tie.Need-returns Inv-loop μ-loop
-unfolding labels
 returns c =
-    let in-loop = c .before .before .before in
+    let in-loop = c .before .before in
     let i = in-loop .before .loop .inv in
-    here (i .0) (in-loop .loop-test .taken)
-    (plus-read _ (c .before .before .is-plus-arg .given) (c .before .is-plus .ensures) (c .if1 .taken)) (i .2)
+    here (i .0) (in-loop .loop-test .taken) (sym (c .before .is-plus .ensures) ∙ c .if1 .taken) (i .2)
 
 add-p : tie.Need-add-p Inv-loop μ-loop
 add-p c = omega arith
@@ -43,11 +34,9 @@ loop-less : tie.Need-loop-less Inv-loop μ-loop
 loop-less c = omega arith
 
 loop-again : tie.Need-loop-again Inv-loop μ-loop
-unfolding labels
 loop-again c =
-    let i = c .before .before .before .before .loop .inv in
-    let not-plus = plus-read _ (c .before .before .is-plus-arg .given) (c .before .is-plus .ensures) (c .if1 .left) in
-    (omega arith, omega arith, one-more (i .2) not-plus)
+    let i = c .before .before .before .loop .inv in
+    (omega arith, omega arith, one-more (i .2) (sym (c .before .is-plus .ensures) ∙ c .if1 .left))
 
 returns-2 : tie.Need-returns-2 Inv-loop μ-loop
 returns-2 c = let i = c .before .loop .inv in nowhere (omega arith) (upto (c .loop-test .left) (i .2))
@@ -59,8 +48,6 @@ first-plus-spec =
     Inv-loop
     μ-loop
     loop-holds
-    mul-is-plus
-    shared-slice-copy-out-is-plus
     is-plus-requires
     returns
     add-p

@@ -1,12 +1,10 @@
 -- A line on the outside is searched whole; of any other the two ends are looked at. Assumes nothing.
 use Prim.Native.Nat.{ℕ, _+_, _-_}
 use native.Mathlib.Omega.{arith}
-use mathlib.Core.Path.{_≡_, sym, ap, _∙_}
-use Rattle.lattice.proofs.Bounds.{points-small}
-use Rattle.moving.specs.Label.{labels}
-use Rattle.ground.proofs.Lines.{line-fits}
+use mathlib.Core.Path.{sym, ap, _∙_}
 use Rattle.checks.proofs.Search.{first-same}
-use Rattle.checks.proofs.Outer.{plus-read, outer-fault, inner-first, inner-last, inner-none}
+use Rattle.checks.proofs.Outer.{outer-fault, inner-first, inner-last, inner-none}
+use Rattle.checks.proofs.Walk.{room}
 use borrow.Author.Needs.{needs}
 use Rattle.checks.proofs.rim.line_rim.Statement.{statement}
 use Rattle.checks.proofs.rim.line_rim.Tie as tie
@@ -24,9 +22,7 @@ first-plus-requires : tie.Need-first-plus-requires
 first-plus-requires c κs =
     let at-length = c .before .before in
     let at-start = at-length .before in
-    let f = line-fits (at-start .pre .1 .1) (at-start .pre .0) in
-    let n = points-small (at-start .args .s) (at-start .pre .0) in
-    let e = at-length .line-length .ensures .0 in
+    let r = room (at-start .pre .0) (at-start .pre .1 .1) (at-length .line-length .ensures .0) in
     (omega arith, omega (arith, at-start .pre .1 .0), omega (arith, at-start .pre .1 .0))
 
 returns : tie.Need-returns
@@ -39,69 +35,52 @@ returns c =
     first-same (outer-fault _ _ (at-start .pre .1 .1) o) (ap (λ (m : ℕ). own + m) (at-length .line-length .ensures .0))
     (c .first-plus .ensures)
 
-mul-is-plus : tie.Need-mul-is-plus
-mul-is-plus c = search needs
-
-shared-slice-copy-out-is-plus : tie.Need-shared-slice-copy-out-is-plus
-shared-slice-copy-out-is-plus c = search needs
-
 is-plus-requires : tie.Need-is-plus-requires
-is-plus-requires c κs = search needs
+is-plus-requires c κs =
+    let at-start = c .before .before .before in
+    let r = room (at-start .pre .0) (at-start .pre .1 .1) (c .before .before .line-length .ensures .0) in
+    (omega (arith, at-start .pre .1 .0), omega (arith, at-start .pre .1 .0))
 
 returns-2 : tie.Need-returns-2
-unfolding labels
 returns-2 c =
-    let at-test = c .before .before .before in
+    let at-test = c .before .before in
     let at-start = at-test .before .before .before in
     let o = sym (at-test .before .is-outer .ensures) ∙ at-test .if1 .left in
-    inner-first _ (labels (at-start .args .samples .now)) (at-start .pre .1 .1) (at-start .pre .0) o
-    (plus-read _ (c .before .before .is-plus-arg .given) (c .before .is-plus .ensures) (c .if2 .taken))
+    inner-first _ _ (at-start .pre .1 .1) (at-start .pre .0) o (sym (c .before .is-plus .ensures) ∙ c .if2 .taken)
 
 sub-last : tie.Need-sub-last
 sub-last c = search needs
 
-mul-is-plus-2 : tie.Need-mul-is-plus-2
-mul-is-plus-2 c = search needs
-
-shared-slice-copy-out-is-plus-2 : tie.Need-shared-slice-copy-out-is-plus-2
-shared-slice-copy-out-is-plus-2 c =
-    let at-length = c .before .before .before .before .before in
-    let at-start = at-length .before in
-    let f = line-fits (at-start .pre .1 .1) (at-start .pre .0) in
-    let e = at-length .line-length .ensures .0 in
-    omega (arith, at-start .pre .1 .0)
-
 is-plus-requires-2 : tie.Need-is-plus-requires-2
-is-plus-requires-2 c κs = search needs
+is-plus-requires-2 c κs =
+    let at-length = c .before .before .before .before in
+    let at-start = at-length .before in
+    let r = room (at-start .pre .0) (at-start .pre .1 .1) (at-length .line-length .ensures .0) in
+    (omega (arith, at-start .pre .1 .0), omega (arith, at-start .pre .1 .0))
 
 returns-3 : tie.Need-returns-3
-unfolding labels
 returns-3 c =
-    let at-first = c .before .before .before in
-    let at-test = at-first .before .before .before in
+    let at-first = c .before .before in
+    let at-test = at-first .before .before in
     let at-length = at-test .before .before in
     let at-start = at-length .before in
-    let e = at-length .line-length .ensures .0 in
-    let i = at-length .line-length .ensures .1 in
-    inner-last _ (labels (at-start .args .samples .now)) (at-start .pre .1 .1) (at-start .pre .0)
-    (sym (at-test .before .is-outer .ensures) ∙ at-test .if1 .left) _ (omega arith)
-    (plus-read _ (at-first .before .before .is-plus-arg .given) (at-first .before .is-plus .ensures) (at-first .if2 .left))
-    (plus-read _ (c .before .before .is-plus-arg2 .given) (c .before .is-plus2 .ensures) (c .if3 .taken))
+    let o = sym (at-test .before .is-outer .ensures) ∙ at-test .if1 .left in
+    let r = room (at-start .pre .0) (at-start .pre .1 .1) (at-length .line-length .ensures .0) in
+    inner-last _ _ (at-start .pre .1 .1) (at-start .pre .0) o _ (omega (arith, at-length .line-length .ensures .0))
+    (sym (at-first .before .is-plus .ensures) ∙ at-first .if2 .left) (sym (c .before .is-plus2 .ensures) ∙ c .if3 .taken)
 
 returns-4 : tie.Need-returns-4
-unfolding labels
 returns-4 c =
-    let at-first = c .before .before .before in
-    let at-test = at-first .before .before .before in
+    let at-first = c .before .before in
+    let at-test = at-first .before .before in
     let at-length = at-test .before .before in
     let at-start = at-length .before in
     let own = at-start .args .q .own in
     let e = at-length .line-length .ensures .0 in
-    let i = at-length .line-length .ensures .1 in
-    inner-none _ (labels (at-start .args .samples .now)) (at-start .pre .1 .1) (at-start .pre .0)
-    (sym (at-test .before .is-outer .ensures) ∙ at-test .if1 .left) (own + at-length .line-length .result - 1) (omega arith)
-    (plus-read _ (at-first .before .before .is-plus-arg .given) (at-first .before .is-plus .ensures) (at-first .if2 .left))
-    (plus-read _ (c .before .before .is-plus-arg2 .given) (c .before .is-plus2 .ensures) (c .if3 .left))
+    let o = sym (at-test .before .is-outer .ensures) ∙ at-test .if1 .left in
+    let r = room (at-start .pre .0) (at-start .pre .1 .1) e in
+    inner-none _ _ (at-start .pre .1 .1) (at-start .pre .0) o (own + at-length .line-length .result - 1) (omega (arith, e))
+    (sym (at-first .before .is-plus .ensures) ∙ at-first .if2 .left) (sym (c .before .is-plus2 .ensures) ∙ c .if3 .left)
     _ (ap (λ (m : ℕ). own + m) e)
 
 pub line-rim-spec : {M : Type 1} → statement M
@@ -113,13 +92,9 @@ line-rim-spec =
     is-outer-requires
     first-plus-requires
     returns
-    mul-is-plus
-    shared-slice-copy-out-is-plus
     is-plus-requires
     returns-2
     sub-last
-    mul-is-plus-2
-    shared-slice-copy-out-is-plus-2
     is-plus-requires-2
     returns-3
     returns-4)

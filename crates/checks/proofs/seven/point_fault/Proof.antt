@@ -45,10 +45,10 @@ loop-less c = omega arith
 
 loop-again : tie.Need-loop-again Inv-loop μ-loop
 loop-again c = (
-      omega arith,
-      one-more (c .before .before .loop .inv .1)
-          (⊎-elim (λ w. cut-at _ _ _ (w .0 .taken) (w .2 .left)) (λ w. none-at _ _ _ (w .0 .left) (w .2 .left)) (c .if1 .came)),
-    )
+  omega arith,
+  one-more (c .before .before .loop .inv .1)
+      (⊎-elim (λ w. cut-at _ _ _ (w .0 .taken) (w .2 .left)) (λ w. none-at _ _ _ (w .0 .left) (w .2 .left)) (c .if1 .came)),
+)
 
 returns-3 : tie.Need-returns-3 Inv-loop μ-loop
 returns-3 c = fine (upto (c .loop-test .left) (c .before .loop .inv .1))

@@ -1,11 +1,10 @@
--- The two samples are compared where there are two. Assumes nothing.
-use mathlib.Core.Path.{sym, _∙_}
+-- The samples that were read are those that are there. Assumes nothing.
+use mathlib.Core.Path.{_∙_}
 use Rattle.moving.specs.Label.{labels}
 use Rattle.ground.proofs.Labels.{opposed-handed}
-use Rattle.checks.proofs.Edges.{past-table}
 use borrow.Author.Needs.{needs}
-use Rattle.checks.proofs.crossing.is_opposed.Statement.{statement}
-use Rattle.checks.proofs.crossing.is_opposed.Tie as tie
+use Rattle.checks.proofs.points.are_opposed.Statement.{statement}
+use Rattle.checks.proofs.points.are_opposed.Tie as tie
 
 mul-opposite : tie.Need-mul-opposite
 mul-opposite c = search needs
@@ -26,11 +25,8 @@ returns : tie.Need-returns
 unfolding labels
 returns c = c .opposite .ensures ∙ opposed-handed _ _ (c .before .before .opposite-arg .given) (c .before .opposite-arg2 .given)
 
-returns-2 : tie.Need-returns-2
-returns-2 c = sym (past-table (c .before .args .samples .now) _ _ (c .if1 .left))
-
-pub is-opposed-spec : {M : Type 1} → statement M
-is-opposed-spec =
+pub are-opposed-spec : {M : Type 1} → statement M
+are-opposed-spec =
     tie.close
     (tie.spec
     mul-opposite
@@ -38,5 +34,4 @@ is-opposed-spec =
     mul-opposite-2
     shared-slice-copy-out-opposite-2
     opposite-requires
-    returns
-    returns-2)
+    returns)
