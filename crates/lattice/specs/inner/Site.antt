@@ -52,6 +52,10 @@ shiftBy t =
       dz = t along-z .down;
     }
 
+-- none is more than 2
+abbrev pub SmallShift : Shift → Type 0
+SmallShift t = (t .ux ≤ 2) × (t .uy ≤ 2) × (t .uz ≤ 2) × (t .dx ≤ 2) × (t .dy ≤ 2) × (t .dz ≤ 2)
+
 -- the numbers of a direction; how far a code leads
 unfoldable pub shiftAlong : ℕ → Shift
 shiftAlong d = shiftBy (direction d)
@@ -75,5 +79,5 @@ pub record Stride (a b base odd : ℕ) (t : Shift) : Type 0 where
   pub b-small : b ≤ 65
   pub base-small : base ≤ 1000000
   pub odd-small : odd ≤ 1
-  pub steps-small : (t .ux ≤ 2) × (t .uy ≤ 2) × (t .uz ≤ 2) × (t .dx ≤ 2) × (t .dy ≤ 2) × (t .dz ≤ 2)
+  pub steps-small : SmallShift t
   pub ends : fallen a b odd t ≤ base + risen a b odd t
