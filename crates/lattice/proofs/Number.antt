@@ -63,7 +63,7 @@ module _ (m : Axis → ℕ) where
       apart : linear m i ≡ linear m j → ⊥
       apart e = omega (arith, linear-inj i j h k e a)
 
-  -- a number's cell has that number, and a cell is its number's
+  -- a number's cell has that number
   linear-cell : (c : ℕ) → linear m (cell m c) ≡ c
   unfolding linear cell
   linear-cell c = rw (mod-add-div (c / m along-x) (m along-y)) (mod-add-div c (m along-x))
@@ -86,9 +86,6 @@ module _ (m : Axis → ℕ) where
       go along-x = mod-lt c (some _ _ c h)
       go along-y = mod-lt (c / m along-x) (some _ _ _ line)
       go along-z = div-lt-iff-lt-mul (some _ _ _ line) .1 (rw (mul-comm (m along-z) (m along-y)) line)
-
-  cell-linear : (i : Axis → ℕ) → In m i → (a : Axis) → cell m (linear m i) a ≡ i a
-  cell-linear i h = linear-inj (cell m (linear m i)) i (cell-in (linear m i) (linear-lt i h)) h (linear-cell (linear m i))
 
 module _ (s : Sizes) where
   pub number-lt : (k : Kind) (i : Axis → ℕ) → Inside s k i → number s k i < points s
