@@ -13,11 +13,11 @@ use Rattle.lattice.specs.declared.Kind.the-variants.{Corner, Centre}
 use Rattle.lattice.specs.declared.Site.{Site}
 use Rattle.lattice.specs.declared.Shift.{Shift}
 use Rattle.lattice.specs.Axis.{Axis, along-x, along-y, along-z, xyz}
-use Rattle.lattice.specs.Counts.{Sized, along, grid, cells, corners}
+use Rattle.lattice.specs.Counts.{Sized, largest, widest, along, grid, cells, corners}
 use Rattle.lattice.specs.Point.{doubled, other, Inside, linear, number, cell, kindOf}
 use Rattle.lattice.specs.Direction.{long, Code, isStart, directionOf, step}
 use Rattle.lattice.specs.Edge.{staysIn, exists, farKind, farIndex}
-use Rattle.lattice.specs.inner.Site.{oddOf, Sited, index, siteAt, siteOf, staysBy}
+use Rattle.lattice.specs.inner.Site.{most, oddOf, Sited, index, siteAt, siteOf, staysBy}
 use Rattle.lattice.specs.inner.Site.{shiftAlong, turnedShift, shiftOf, SmallShift, risen, fallen, Stride}
 use Rattle.lattice.proofs.Number.{cell-in, kind-low, kind-high}
 use Rattle.lattice.proofs.Codes.{one-way, long-even, short-one, up-small, down-small}
@@ -33,15 +33,15 @@ unfolding siteAt
 site-is s k x y z own across e f = λ i. record { kind = k; x = x; y = y; z = z; own = e i; across = f i }
 
 module _ (s : Sizes) (h : Sized s) where
-  -- the indices of a corner and of a centre are at most 64
+  -- the indices of a corner and of a centre are at most the largest size
   pub corner-small : (p : ℕ) → p < corners s
-      → (p % (s .nx + 1) ≤ 64) × (p / (s .nx + 1) % (s .ny + 1) ≤ 64) × (p / (s .nx + 1) / (s .ny + 1) ≤ 64)
+      → (p % (s .nx + 1) ≤ largest) × (p / (s .nx + 1) % (s .ny + 1) ≤ largest) × (p / (s .nx + 1) / (s .ny + 1) ≤ largest)
   unfolding cell
   corner-small p l =
       let i = cell-in (grid s Corner) p l in
       (omega (arith, i along-x), omega (arith, i along-y), omega (arith, i along-z))
 
-  pub centre-small : (c : ℕ) → c < cells (grid s Centre) → (c % s .nx ≤ 64) × (c / s .nx % s .ny ≤ 64) × (c / s .nx / s .ny ≤ 64)
+  pub centre-small : (c : ℕ) → c < cells (grid s Centre) → (c % s .nx ≤ largest) × (c / s .nx % s .ny ≤ largest) × (c / s .nx / s .ny ≤ largest)
   unfolding cell
   centre-small c l =
       let i = cell-in (grid s Centre) c l in
@@ -142,16 +142,16 @@ module _ (s : Sizes) (q : Site) (h : Sized s) (g : Sited s q) where
   pub small-at : (odd : ℕ) → odd ≡ oddOf (q .kind) → SmallAt q odd
   small-at odd e = rw e site-small
 
-  pub numbers-small : (q .own ≤ 1000000) × (q .across ≤ 1000000)
+  pub numbers-small : (q .own ≤ most) × (q .across ≤ most)
   unfolding linear
   numbers-small = (rw (g .own-is) (below (q .kind)), rw (g .across-is) (below (other (q .kind))))
     where
-      cell-small : (a b : ℕ) → a ≤ 65 → b ≤ 65 → q .x + a * (q .y + b * q .z) ≤ 274624
+      cell-small : (a b : ℕ) → a ≤ widest → b ≤ widest → q .x + a * (q .y + b * q .z) ≤ 274624
       cell-small a b ha hb =
           let i = site-small in
           linear-small a b (q .x) (q .y) (q .z) ha hb (omega (arith, i .0)) (omega (arith, i .1)) (omega (arith, i .2))
 
-      below : (k : Kind) → number s k (index q) ≤ 1000000
+      below : (k : Kind) → number s k (index q) ≤ most
       below Corner = omega (arith, cell-small (s .nx + 1) (s .ny + 1) (omega arith) (omega arith))
       below Centre = omega (arith, corners-small s h, cell-small (s .nx) (s .ny) (omega arith) (omega arith))
 
@@ -203,7 +203,7 @@ pub record Reaches (s : Sizes) (q : Site) (c a b base odd : ℕ) (t : Shift) : T
 module _ {s : Sizes} {q : Site} {c odd : ℕ} {t : Shift} (g : Going s q c odd t) where
   -- for the grid and the number of the point's indices in the far end's kind
   reaches : {a b base : ℕ} (k : Kind) → farKind (q .kind) c ≡ k → a ≡ along k (s .nx) → b ≡ along k (s .ny)
-      → base ≡ number s k (index q) → base ≤ 1000000 → Reaches s q c a b base odd t
+      → base ≡ number s k (index q) → base ≤ most → Reaches s q c a b base odd t
   unfolding risen fallen shiftOf linear
   reaches {a} {b} {base} k e ea eb en small =
       record {
@@ -219,7 +219,7 @@ module _ {s : Sizes} {q : Site} {c odd : ℕ} {t : Shift} (g : Going s q c odd t
         lands = lands;
       }
     where
-      wide : (k : Kind) (n : ℕ) → n ≤ 64 → along k n ≤ 65
+      wide : (k : Kind) (n : ℕ) → n ≤ largest → along k n ≤ widest
       wide Corner n l = omega arith
       wide Centre n l = omega arith
 

@@ -15,6 +15,10 @@ size s = xyz (s .nx) (s .ny) (s .nz)
 abbrev pub largest : ℕ
 largest = 64
 
+-- and the most points of a kind along an axis
+abbrev pub widest : ℕ
+widest = 65
+
 -- "each 1 to 64", as a test and as a fact
 unfoldable pub sizesFit : Sizes → Bool
 sizesFit s = everywhere (λ a. leb 1 (size s a) && leb (size s a) largest)
