@@ -4,7 +4,7 @@ use native.Mathlib.Nat.{mul-le-mul, lt-of-le-of-lt}
 use native.Mathlib.Omega.{arith}
 use lib.Dec.{T, ltb, ltb→lt}
 use Rattle.lattice.specs.declared.Sizes.{Sizes}
-use Rattle.lattice.specs.Counts.{Sized, largest, widest, cells, corners, points, tetrahedra}
+use Rattle.lattice.specs.Counts.{Sized, largest, widest, cells, corners, points, mostPoints, tetrahedra}
 
 -- a product of bounded numbers fits a word
 pub small : (A B : ℕ) {a b : ℕ} → a ≤ A → b ≤ B → T (ltb (A * B) (2 ^ 64)) → a * b < 2 ^ 64
@@ -20,7 +20,7 @@ pub corners-small : (s : Sizes) → Sized s → corners s ≤ 274625
 unfolding cells
 corners-small s h = product₃ 65 65 65 (omega arith) (omega arith) (omega arith)
 
-pub points-small : (s : Sizes) → Sized s → points s ≤ 536769
+pub points-small : (s : Sizes) → Sized s → points s ≤ mostPoints
 unfolding points cells
 points-small s h = omega (arith, corners-small s h, product₃ 64 64 64 (h .x-high) (h .y-high) (h .z-high))
 

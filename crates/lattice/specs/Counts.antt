@@ -51,6 +51,10 @@ corners s = cells (grid s Corner)
 unfoldable pub points : Sizes → ℕ
 points s = corners s + cells (grid s Centre)
 
+-- the most that a block has: 65³ corners and 64³ centres
+abbrev pub mostPoints : ℕ
+mostPoints = 536769
+
 -- "4 times the sum of (nx-1)·ny·nz, nx·(ny-1)·nz and nx·ny·(nz-1)"
 unfoldable pub tetrahedra : Sizes → ℕ
 tetrahedra s =

@@ -13,7 +13,7 @@ use Rattle.lattice.specs.Counts.{widest, grid}
 use Rattle.lattice.specs.Point.{other, number, kindOf, indexOf}
 use Rattle.lattice.specs.Direction.{Step, direction, step}
 
--- more than the numbers of the points of any block, of which there are at most 536,769: seven times as much fits a word
+-- a bound that the numbers of all points are below, rounder than `mostPoints`
 abbrev pub most : ℕ
 most = 1000000
 
