@@ -14,8 +14,9 @@ use borrow.Author.Tests.{lt-ltb, le-ltb, ltb-false, eq-eqb, ne-eqb, not-false}
 use Rattle.basics.specs.Choice.{if_then_else_}
 use Rattle.basics.proofs.Test.{lt-or}
 use Rattle.lattice.specs.declared.Sizes.{Sizes}
-use Rattle.lattice.specs.Counts.{Sized, sizesFit, points}
+use Rattle.lattice.specs.Counts.{Sized, largest, sizesFit, points, mostPoints}
 use Rattle.lattice.proofs.Sized.{fits-sized}
+use Rattle.lattice.proofs.Bounds.{points-small}
 use Rattle.blockfile.specs.declared.Read.{Read}
 use Rattle.blockfile.specs.Format.{
   samplesFrom,
@@ -34,6 +35,7 @@ use Rattle.blockfile.specs.Format.{
 }
 use Rattle.blockfile.proofs.Stores.{sets-front}
 use Rattle.blockfile.proofs.Outcome.{samples-long, file-cuts-long}
+use Rattle.blockfile.proofs.Longest.{Limited}
 
 -- the answer and both tables of an outcome
 abbrev pub Is : Outcome → Read → List ℤ → List ℕ → Type 0
@@ -84,10 +86,9 @@ pub record Readable (bytes : List ℕ) (limit : ℕ) (samples : List ℤ) (cuts 
   pub well : wellFormed bytes (points s) ≡ true
   pub is : read bytes limit samples cuts ≡ taken bytes samples cuts s
 
-pub record Small (s : Sizes) : Type 0 where
-  pub x : s .nx ≤ 64
-  pub y : s .ny ≤ 64
-  pub z : s .nz ≤ 64
+-- what is asked to write the tables of a file of n points
+abbrev pub Ready : List ℕ → List ℤ → List ℕ → ℕ → Type 0
+Ready bytes samples cuts n = ((n ≤ mostPoints) × (wellFormed bytes n ≡ true)) × ((n ≤ length samples) × (7 * n ≤ length cuts))
 
 module _ (bytes : List ℕ) (limit : ℕ) (samples : List ℤ) (cuts : List ℕ) where
   pub readable : read bytes limit samples cuts .answer .number ≡ 0 → Readable bytes limit samples cuts (fileSizes bytes)
@@ -157,17 +158,22 @@ module _ (bytes : List ℕ) (limit : ℕ) (samples : List ℤ) (cuts : List ℕ)
         rw (ap (λ (r : Read). readSizes r) q) w
 
     -- sizes of a block, or zeros
-    pub small-sizes : Small (readSizes r)
+    pub small-sizes : Limited largest (readSizes r)
     unfolding refusal
     small-sizes = elim (lt-or 0 (r .number)) [ inl h ↦ by-refusal (λ z. omega arith) | inr h ↦ by-block (readable-as (omega arith) .sized) ]
       where
-        by-refusal : (r .number ≡ 0 → ⊥) → Small (readSizes r)
+        by-refusal : (r .number ≡ 0 → ⊥) → Limited largest (readSizes r)
         by-refusal n =
             rw (ap (λ (r : Read). readSizes r) (p ∙ ap (λ (o : Outcome). o .answer) (refusal-as n .1)))
             (record { x = omega arith; y = omega arith; z = omega arith })
 
-        by-block : Sized (readSizes r) → Small (readSizes r)
+        by-block : Sized (readSizes r) → Limited largest (readSizes r)
         by-block w = record { x = w .x-high; y = w .y-high; z = w .z-high }
+
+    pub ready : {n : ℕ} → r .number ≡ 0 → n ≡ points (readSizes r) → Ready bytes samples cuts n
+    ready e h =
+        let w = readable-as e in
+        rw h ((points-small _ (w .sized), w .well), (w .room, w .roomy))
 
     -- both tables, written from their first entry on
     pub written : {ss : List ℤ} {cs : List ℕ} {n : ℕ} → r .number ≡ 0 → n ≡ points (readSizes r)

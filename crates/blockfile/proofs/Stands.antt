@@ -1,5 +1,6 @@
 -- What stands at a place of a file is read there: numbers, samples and runs that were written come back. Assumes nothing.
 use Prim.Native.Nat.{ℕ, _+_, _*_, _-_, _/_, _%_, _<_, _≤_}
+use native.Mathlib.Nat.{mul-suc}
 use native.Mathlib.Omega.{arith}
 use mathlib.Core.Path.{_≡_, refl, sym, ap, ap₂, _∙_}
 use mathlib.Core.Bool.{true}
@@ -56,15 +57,19 @@ four-back n h w =
     let high = twoBytes (n / 65536) in
     omega (arith, two-back n (stands-first low high w), two-back (n / 65536) (stands-second low high w 2 (two-long n)))
 
+-- parts that are each n long
+pub gather-long : {A : Type 0} (f : A → List ℕ) (n : ℕ) → ((a : A) → length (f a) ≡ n) → (l : List A) → length (gather f l) ≡ n * length l
+unfolding gather
+gather-long f n h [] = omega arith
+gather-long f n h (a ∷ l) = simp length-append (omega (arith, h a, gather-long f n h l, mul-suc n (length l)))
+
 -- samples
 pub sample-long : (z : ℤ) → length (sampleBytes z) ≡ 2
 unfolding sampleBytes
 sample-long z = two-long (unsigned z)
 
 pub samples-bytes : (zs : List ℤ) → length (gather sampleBytes zs) ≡ 2 * length zs
-unfolding gather
-samples-bytes [] = refl
-samples-bytes (z ∷ zs) = simp length-append (omega (arith, sample-long z, samples-bytes zs))
+samples-bytes = gather-long sampleBytes 2 sample-long
 
 pub signed-back : (z : ℤ) → sixteen z ≡ true → signed (unsigned z % 65536) ≡ z
 unfolding sixteen unsigned
@@ -96,9 +101,7 @@ unfolding header
 header-long r = simp length-append (omega (arith, four-long (r .offset), two-long (r .length)))
 
 pub headers-bytes : (rs : List Run) → length (gather header rs) ≡ 6 * length rs
-unfolding gather
-headers-bytes [] = refl
-headers-bytes (r ∷ rs) = simp length-append (omega (arith, header-long r, headers-bytes rs))
+headers-bytes = gather-long header 6 header-long
 
 pub run-back : (r : Run) {bytes : List ℕ} {i : ℕ} {rest : List ℕ} → r .offset < 4294967296 → r .length ≤ 65535
     → Stands bytes i (header r) rest → runAt bytes i ≡ r

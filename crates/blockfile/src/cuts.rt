@@ -41,7 +41,8 @@ pub fn write_cuts(
     requires { ⌜ first + lengths (runsFrom (now bytes) head count) ≤ length (now bytes) ⌝ }
     requires { ⌜ fit total 0 (runsFrom (now bytes) head count) ≡ true ⌝ }
     requires { ⌜ total ≤ length (now table) ⌝ }
-    ensures { λ _. ⌜ now (table .exit) ≡ sets (now (table .entry)) 0 (cutsFrom (now (bytes .entry)) total 0 first (runsFrom (now (bytes .entry)) head count)) ⌝ }
+    ensures { λ _. ⌜ now (table .exit)
+        ≡ sets (now (table .entry)) 0 (cutsFrom (now (bytes .entry)) total 0 first (runsFrom (now (bytes .entry)) head count)) ⌝ }
 {
     let mut k: usize = 0;
     let mut at = first;

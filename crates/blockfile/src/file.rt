@@ -11,7 +11,7 @@ ghost use mathlib.Core.Bool.{true};
 ghost use Prim.Native.Nat.{_+_, _*_, _≤_};
 ghost use lib.ListN.{length};
 ghost use lib.Seq.{sets};
-ghost use Rattle.lattice.specs.Counts.{Sized, points};
+ghost use Rattle.lattice.specs.Counts.{Sized, points, mostPoints};
 ghost use Rattle.blockfile.specs.Format.{fileSizes, beyond, wellFormed, samplesFrom, fileCuts, refusal, readBody, read, readSizes, readWhole};
 
 // The sizes with which a file starts.
@@ -65,7 +65,7 @@ fn points_of(r: Read) -> usize
 
 // The tables become those of a well-formed file of n points.
 fn write_tables(bytes: &[u8], n: usize, samples: &mut [i16], cuts: &mut [u8])
-    requires { ⌜ (n ≤ 536769) × (wellFormed (now bytes) n ≡ true) ⌝ }
+    requires { ⌜ (n ≤ mostPoints) × (wellFormed (now bytes) n ≡ true) ⌝ }
     requires { ⌜ (n ≤ length (now samples)) × (7 * n ≤ length (now cuts)) ⌝ }
     ensures { λ _. ⌜ now (samples .exit) ≡ sets (now (samples .entry)) 0 (samplesFrom (now (bytes .entry)) 3 n) ⌝ }
     ensures { λ _. ⌜ now (cuts .exit) ≡ sets (now (cuts .entry)) 0 (fileCuts (now (bytes .entry)) n) ⌝ }

@@ -5,6 +5,7 @@ ghost use mathlib.Core.Path.{_≡_};
 ghost use mathlib.Core.Bool.{true};
 ghost use Prim.Native.Nat.{_+_, _*_, _<_, _≤_};
 ghost use lib.ListN.{length};
+ghost use Rattle.lattice.specs.Counts.{mostPoints};
 ghost use Rattle.blockfile.specs.Format.{runAt, runsFrom, runFits, fit, lengths, noZero, wellFormed, firstByte, end};
 
 // The run whose header starts at i.
@@ -74,7 +75,7 @@ fn has_no_zero(part: &[u8]) -> bool
 
 // Where a file of n points ends.
 pub fn end_of(bytes: &[u8], n: usize) -> usize
-    requires { ⌜ (n ≤ 536769) × (firstByte (now bytes) n ≤ length (now bytes)) ⌝ }
+    requires { ⌜ (n ≤ mostPoints) × (firstByte (now bytes) n ≤ length (now bytes)) ⌝ }
     ensures { λ r. ⌜ r ≡ end (now (bytes .entry)) n ⌝ }
 {
     let count = numbers::two_at(bytes, 3 + 2 * n);
@@ -84,7 +85,7 @@ pub fn end_of(bytes: &[u8], n: usize) -> usize
 
 // What follows the size bytes is that of a block of n points.
 pub fn is_well_formed(bytes: &[u8], n: usize) -> bool
-    requires { ⌜ n ≤ 536769 ⌝ }
+    requires { ⌜ n ≤ mostPoints ⌝ }
     ensures { λ r. ⌜ r ≡ wellFormed (now (bytes .entry)) n ⌝ }
 {
     let head = 5 + 2 * n;

@@ -20,7 +20,8 @@ use Rattle.lattice.specs.Direction.{Step, long, Code, isStart, direction
 use Rattle.lattice.specs.Edge.{staysIn, exists, farKind, farIndex, near, neighbour, byteAt, edgeByte}
 use Rattle.lattice.proofs.Axes.{everywhere-use, everywhere-i}
 use Rattle.lattice.proofs.Number.{number-lt, number-inj, number-of, inside-of, kind-number, index-number}
-use Rattle.lattice.proofs.Codes.{opposite-code, opposite-twice, opposite-start, opposite-direction, opposite-up, opposite-down, one-way, long-even, short-one, codes-apart}
+use Rattle.lattice.proofs.Codes.{opposite-code, opposite-start, opposite-direction, opposite-up, opposite-down}
+use Rattle.lattice.proofs.Codes.{one-way, long-even, short-one, codes-apart}
 
 -- the point (l, j) lies one step of the code c from the point (k, i)
 abbrev pub Leads : Kind → (Axis → ℕ) → ℕ → Kind → (Axis → ℕ) → Type 0
@@ -42,16 +43,18 @@ doubled-inside s Corner x a h = omega arith
 doubled-inside s Centre x a h = omega arith
 
 -- a step that stays above 0 ends at a doubled coordinate of the far kind
-far-doubled : (k : Kind) (i : Axis → ℕ) (c : ℕ) → Code c → (a : Axis) → step c a .down ≤ doubled k (i a) → doubled (farKind k c) (farIndex k i c a) + step c a .down ≡ doubled k (i a) + step c a .up
+far-doubled : (k : Kind) (i : Axis → ℕ) (c : ℕ) → Code c → (a : Axis) → step c a .down ≤ doubled k (i a)
+    → doubled (farKind k c) (farIndex k i c a) + step c a .down ≡ doubled k (i a) + step c a .up
 unfolding farKind farIndex
 far-doubled k i c h a low = go (long (directionOf c)) refl k low
   where
     go : (b : Bool) → long (directionOf c) ≡ b → (k : Kind) → step c a .down ≤ doubled k (i a)
-        → doubled (if b then k else other k) ((doubled k (i a) + step c a .up - step c a .down) / 2) + step c a .down ≡ doubled k (i a) + step c a .up
-    go true e Corner l = omega (arith, long-even c h a (true-T _ e))
-    go true e Centre l = omega (arith, long-even c h a (true-T _ e))
-    go false e Corner l = omega (arith, short-one c h a (subst (λ (b : Bool). T (not b)) (sym e) tt))
-    go false e Centre l = omega (arith, short-one c h a (subst (λ (b : Bool). T (not b)) (sym e) tt))
+        → doubled (if b then k else other k) ((doubled k (i a) + step c a .up - step c a .down) / 2) + step c a .down
+        ≡ doubled k (i a) + step c a .up
+    go true e Corner l = omega (arith, long-even c h a e)
+    go true e Centre l = omega (arith, long-even c h a e)
+    go false e Corner l = omega (arith, short-one c h a e)
+    go false e Centre l = omega (arith, short-one c h a e)
 
 -- the far end of an edge that exists
 pub record FarEnd (s : Sizes) (k : Kind) (i : Axis → ℕ) (c q : ℕ) : Type 0 where
@@ -62,46 +65,64 @@ pub record FarEnd (s : Sizes) (k : Kind) (i : Axis → ℕ) (c q : ℕ) : Type 0
   pub leads : Leads k i c kind index
 
 module _ (s : Sizes) (k : Kind) (i : Axis → ℕ) (c : ℕ) where
-  pub stays : T (exists s k i c) → (a : Axis) → (step c a .down ≤ doubled k (i a)) × (doubled k (i a) + step c a .up ≤ 2 * size s a + step c a .down)
+  -- the step stays between 0 and twice the size along an axis
+  abbrev pub Stays : Axis → Type 0
+  Stays a = (step c a .down ≤ doubled k (i a)) × (doubled k (i a) + step c a .up ≤ 2 * size s a + step c a .down)
+
+  pub stays : T (exists s k i c) → (a : Axis) → Stays a
   unfolding staysIn
   stays t a =
+      let low = leb (step c a .down) (doubled k (i a)) in
       let u = everywhere-use (staysIn s k i c) t a in
-      (leb→le _ _ (&&-l (leb (step c a .down) (doubled k (i a))) _ u), leb→le _ _ (&&-r (leb (step c a .down) (doubled k (i a))) _ u))
+      (leb→le _ _ (&&-l low _ u), leb→le _ _ (&&-r low _ u))
 
-  exists-i : ((a : Axis) → (step c a .down ≤ doubled k (i a)) × (doubled k (i a) + step c a .up ≤ 2 * size s a + step c a .down)) → T (exists s k i c)
+  exists-i : ((a : Axis) → Stays a) → T (exists s k i c)
   unfolding staysIn
-  exists-i h = everywhere-i (staysIn s k i c) (λ a. &&-i (leb (step c a .down) (doubled k (i a))) _ (le→leb _ _ (h a .0)) (le→leb _ _ (h a .1)))
+  exists-i h =
+      everywhere-i (staysIn s k i c)
+      (λ a. &&-i (leb (step c a .down) (doubled k (i a))) _ (le→leb _ _ (h a .0)) (le→leb _ _ (h a .1)))
 
-  near-at : T (exists s k i c) → near s k i c ≡ At (number s (farKind k c) (farIndex k i c))
+  -- the number of the far end
+  abbrev farNumber : ℕ
+  farNumber = number s (farKind k c) (farIndex k i c)
+
+  pub near-yes : exists s k i c ≡ true → near s k i c ≡ At (number s (farKind k c) (farIndex k i c))
   unfolding near
-  near-at t = simp (T-true (exists s k i c) t)
+  near-yes e = simp e
 
-  near-exists : (q : ℕ) → near s k i c ≡ At q → T (exists s k i c) × (q ≡ number s (farKind k c) (farIndex k i c))
+  pub near-no : exists s k i c ≡ false → near s k i c ≡ Nothing
+  unfolding near
+  near-no e = simp e
+
+  near-exists : (q : ℕ) → near s k i c ≡ At q → T (exists s k i c) × (q ≡ farNumber)
   unfolding near
   near-exists q e = go (exists s k i c) refl e
     where
-      go : (b : Bool) → exists s k i c ≡ b → (if b then At (number s (farKind k c) (farIndex k i c)) else Nothing) ≡ At q → T (exists s k i c) × (q ≡ number s (farKind k c) (farIndex k i c))
+      go : (b : Bool) → exists s k i c ≡ b → (if b then At farNumber else Nothing) ≡ At q → T (exists s k i c) × (q ≡ farNumber)
       go true d x = (true-T _ d, cc)
       go false d x = let z : _≡_ {A = ℕ} 0 1 = cc in absurd (omega arith)
 
   pub far-end : (q : ℕ) → Inside s k i → Code c → near s k i c ≡ At q → FarEnd s k i c q
   far-end q h g e =
       let x = near-exists q e in
+      let there = stays (x .0) in
+      let leads : Leads k i c (farKind k c) (farIndex k i c) = (λ a. far-doubled k i c g a (there a .0)) in
       record {
         kind = farKind k c;
         index = farIndex k i c;
-        inside = λ a. doubled-inside s (farKind k c) (farIndex k i c a) a (omega (arith, stays (x .0) a, far-doubled k i c g a (stays (x .0) a .0)));
+        inside = λ a. doubled-inside s (farKind k c) (farIndex k i c a) a (omega (arith, there a, leads a));
         is = x .1;
-        leads = λ a. far-doubled k i c g a (stays (x .0) a .0);
+        leads = leads;
       }
 
-  pub leads-near : (l : Kind) (j : Axis → ℕ) → Inside s k i → Inside s l j → Code c → Leads k i c l j → near s k i c ≡ At (number s l j)
-  leads-near l j h g d x = near-at (exists-i room) ∙ (λ t. At (number s (same along-x .0 t) (λ a. same a .1 t)))
+  pub leads-near : (l : Kind) (j : Axis → ℕ) → Inside s k i → Inside s l j → Code c → Leads k i c l j
+      → near s k i c ≡ At (number s l j)
+  leads-near l j h g d x = near-yes (T-true _ (exists-i room)) ∙ (λ t. At (number s (same along-x .0 t) (λ a. same a .1 t)))
     where
       low : (a : Axis) → step c a .down ≤ doubled k (i a)
       low a = elim (one-way c d a) [ inl u ↦ omega (arith, x a) | inr u ↦ omega arith ]
 
-      room : (a : Axis) → (step c a .down ≤ doubled k (i a)) × (doubled k (i a) + step c a .up ≤ 2 * size s a + step c a .down)
+      room : (a : Axis) → Stays a
       room a = (low a, omega (arith, x a, doubled-le s l j g a))
 
       same : (a : Axis) → (farKind k c ≡ l) × (farIndex k i c a ≡ j a)
@@ -133,7 +154,8 @@ pub byte-back : (p c q : ℕ) → Code c → edgeByte p c q ≡ edgeByte q (oppo
 unfolding edgeByte
 byte-back p c q h = go (isStart c) (opposite-start c h)
   where
-    go : (b : Bool) → isStart (opposite c) ≡ not b → byteAt (if b then p else q) (directionOf c) ≡ byteAt (if isStart (opposite c) then q else p) (directionOf (opposite c))
+    go : (b : Bool) → isStart (opposite c) ≡ not b
+        → byteAt (if b then p else q) (directionOf c) ≡ byteAt (if isStart (opposite c) then q else p) (directionOf (opposite c))
     go true e = simp (e, opposite-direction c h)
     go false e = simp (e, opposite-direction c h)
 
@@ -151,4 +173,6 @@ one-code s p c e q h g d x y = codes-apart c e g d way
     same = number-inj s (f .kind) (f′ .kind) (f .index) (f′ .index) (f .inside) (f′ .inside) (sym (f .is) ∙ f′ .is)
 
     way : (a : Axis) → step c a .up + step e a .down ≡ step e a .up + step c a .down
-    way a = let z : doubled (f .kind) (f .index a) ≡ doubled (f′ .kind) (f′ .index a) = (λ t. doubled (same .0 t) (same .1 a t)) in omega (arith, f .leads a, f′ .leads a)
+    way a =
+        let z : doubled (f .kind) (f .index a) ≡ doubled (f′ .kind) (f′ .index a) = (λ t. doubled (same .0 t) (same .1 a t)) in
+        omega (arith, f .leads a, f′ .leads a)

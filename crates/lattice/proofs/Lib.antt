@@ -1,4 +1,5 @@
 pub mod Directions
+pub mod Inner
 pub mod Axes
 pub mod Bounds
 pub mod Sized

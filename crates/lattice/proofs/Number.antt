@@ -1,6 +1,6 @@
 -- The numbering of the lattice points: ascending, one to one, and onto the numbers below N. Assumes nothing.
 use Prim.Native.Nat.{ℕ, suc, _+_, _*_, _-_, _/_, _%_, _≤_, _<_}
-use native.Mathlib.Nat.{mul-le-mul-left, mod-lt, mod-add-div, mul-comm, div-lt-iff-lt-mul, add-mul-div-left, add-mul-mod-self-left, div-eq-of-lt, mod-eq-of-lt}
+use native.Mathlib.Nat.{mul-le-mul-left, mod-lt, mod-add-div, mul-comm, div-lt-iff-lt-mul}
 use native.Mathlib.Omega.{arith}
 use native.Mathlib.Decide.{decLt}
 use mathlib.Core.Path.{_≡_, refl, sym, ap, _∙_}
@@ -63,7 +63,7 @@ module _ (m : Axis → ℕ) where
       apart : linear m i ≡ linear m j → ⊥
       apart e = omega (arith, linear-inj i j h k e a)
 
-  -- a number's cell has that number, and a cell is its number's
+  -- a number's cell has that number
   linear-cell : (c : ℕ) → linear m (cell m c) ≡ c
   unfolding linear cell
   linear-cell c = rw (mod-add-div (c / m along-x) (m along-y)) (mod-add-div c (m along-x))
@@ -87,9 +87,6 @@ module _ (m : Axis → ℕ) where
       go along-y = mod-lt (c / m along-x) (some _ _ _ line)
       go along-z = div-lt-iff-lt-mul (some _ _ _ line) .1 (rw (mul-comm (m along-z) (m along-y)) line)
 
-  cell-linear : (i : Axis → ℕ) → In m i → (a : Axis) → cell m (linear m i) a ≡ i a
-  cell-linear i h = linear-inj (cell m (linear m i)) i (cell-in (linear m i) (linear-lt i h)) h (linear-cell (linear m i))
-
 module _ (s : Sizes) where
   pub number-lt : (k : Kind) (i : Axis → ℕ) → Inside s k i → number s k i < points s
   unfolding points
@@ -108,7 +105,8 @@ module _ (s : Sizes) where
   number-inj Centre Centre i j h g e = (refl, linear-inj (grid s Centre) i j h g (omega arith))
 
   -- ascending along every axis
-  pub number-asc : (k : Kind) (i j : Axis → ℕ) → Inside s k i → Inside s k j → ((a : Axis) → i a ≤ j a) → (a : Axis) → i a < j a → number s k i < number s k j
+  pub number-asc : (k : Kind) (i j : Axis → ℕ) → Inside s k i → Inside s k j
+      → ((a : Axis) → i a ≤ j a) → (a : Axis) → i a < j a → number s k i < number s k j
   number-asc Corner i j h g l a less = linear-asc (grid s Corner) i j h g l a less
   number-asc Centre i j h g l a less = omega (arith, linear-asc (grid s Centre) i j h g l a less)
 
@@ -147,4 +145,6 @@ module _ (s : Sizes) where
 
   pub index-number : (k : Kind) (i : Axis → ℕ) → Inside s k i → (a : Axis) → indexOf s (number s k i) a ≡ i a
   index-number k i h =
-      number-inj (kindOf s (number s k i)) k (indexOf s (number s k i)) i (inside-of (number s k i) (number-lt k i h)) h (number-of (number s k i) (number-lt k i h)) .1
+      let p = number s k i in
+      let l = number-lt k i h in
+      number-inj (kindOf s p) k (indexOf s p) i (inside-of p l) h (number-of p l) .1

@@ -2,29 +2,29 @@
 use Prim.Native.Nat.{ℕ, suc, zero, _+_, _*_, _-_, _/_, _%_, _≤_, _<_}
 use native.Mathlib.Nat.{mul-add}
 use native.Mathlib.Omega.{arith}
-use mathlib.Core.Path.{_≡_, refl, sym, ap, subst, _∙_}
+use mathlib.Core.Path.{_≡_, refl, ap}
 use mathlib.Core.Logic.{_⊎_, inl, inr}
-use mathlib.Core.Bool.{Bool, true, false, not, _&&_}
-use lib.Dec.{T}
+use mathlib.Core.Bool.{Bool, true, false}
 use borrow.Author.Tests.{le-leb, lt-leb, lt-ltb, le-ltb}
-use Rattle.basics.specs.Choice.{if_then_else_}
 use Rattle.basics.proofs.Test.{true-T, All₃}
 use Rattle.lattice.specs.declared.Sizes.{Sizes}
 use Rattle.lattice.specs.declared.Kind.{Kind}
 use Rattle.lattice.specs.declared.Kind.the-variants.{Corner, Centre}
 use Rattle.lattice.specs.declared.Site.{Site}
-use Rattle.lattice.specs.declared.Near.the-variants.{At, Nothing}
 use Rattle.lattice.specs.declared.Shift.{Shift}
 use Rattle.lattice.specs.Axis.{Axis, along-x, along-y, along-z, xyz}
-use Rattle.lattice.specs.Counts.{Sized, along, grid, cells, corners}
+use Rattle.lattice.specs.Counts.{Sized, largest, widest, along, grid, cells, corners}
 use Rattle.lattice.specs.Point.{doubled, other, Inside, linear, number, cell, kindOf}
-use Rattle.lattice.specs.Direction.{Step, long, Code, isStart, directionOf, step}
-use Rattle.lattice.specs.Edge.{staysIn, exists, farKind, farIndex, near}
-use Rattle.lattice.specs.inner.Site.{oddOf, Sited, index, siteAt, siteOf, staysBy, shiftAlong, turnedShift, shiftOf, risen, fallen}
+use Rattle.lattice.specs.Direction.{long, Code, isStart, directionOf, step}
+use Rattle.lattice.specs.Edge.{staysIn, exists, farKind, farIndex}
+use Rattle.lattice.specs.inner.Site.{most, oddOf, Sited, index, siteAt, siteOf, staysBy}
+use Rattle.lattice.specs.inner.Site.{shiftAlong, turnedShift, shiftOf, SmallShift, risen, fallen, Stride}
 use Rattle.lattice.proofs.Number.{cell-in, kind-low, kind-high}
 use Rattle.lattice.proofs.Codes.{one-way, long-even, short-one, up-small, down-small}
 use Rattle.lattice.proofs.Bounds.{linear-small, corners-small}
+use Rattle.lattice.proofs.Sized.{size-high}
 use Rattle.lattice.proofs.Edge.{stays}
+pub use Rattle.lattice.proofs.Edge.{near-yes, near-no}
 
 -- a site from its parts
 pub site-is : (s : Sizes) (k : Kind) (x y z own across : ℕ) → own ≡ number s k (xyz x y z) → across ≡ number s (other k) (xyz x y z)
@@ -33,14 +33,15 @@ unfolding siteAt
 site-is s k x y z own across e f = λ i. record { kind = k; x = x; y = y; z = z; own = e i; across = f i }
 
 module _ (s : Sizes) (h : Sized s) where
-  -- the indices of a corner and of a centre are at most 64
-  pub corner-small : (p : ℕ) → p < corners s → (p % (s .nx + 1) ≤ 64) × (p / (s .nx + 1) % (s .ny + 1) ≤ 64) × (p / (s .nx + 1) / (s .ny + 1) ≤ 64)
+  -- the indices of a corner and of a centre are at most the largest size
+  pub corner-small : (p : ℕ) → p < corners s
+      → (p % (s .nx + 1) ≤ largest) × (p / (s .nx + 1) % (s .ny + 1) ≤ largest) × (p / (s .nx + 1) / (s .ny + 1) ≤ largest)
   unfolding cell
   corner-small p l =
       let i = cell-in (grid s Corner) p l in
       (omega (arith, i along-x), omega (arith, i along-y), omega (arith, i along-z))
 
-  pub centre-small : (c : ℕ) → c < cells (grid s Centre) → (c % s .nx ≤ 64) × (c / s .nx % s .ny ≤ 64) × (c / s .nx / s .ny ≤ 64)
+  pub centre-small : (c : ℕ) → c < cells (grid s Centre) → (c % s .nx ≤ largest) × (c / s .nx % s .ny ≤ largest) × (c / s .nx / s .ny ≤ largest)
   unfolding cell
   centre-small c l =
       let i = cell-in (grid s Centre) c l in
@@ -78,27 +79,18 @@ doubled-odd Corner i = omega arith
 doubled-odd Centre i = refl
 
 -- numbers in a grid add up
-pub linear-add : (m i j up down : Axis → ℕ) → ((a : Axis) → j a + down a ≡ i a + up a) → linear m j + linear m down ≡ linear m i + linear m up
+digits-add : (a x y v w x′ y′ v′ w′ : ℕ) → x + v ≡ x′ + v′ → y + w ≡ y′ + w′
+    → x + a * y + (v + a * w) ≡ x′ + a * y′ + (v′ + a * w′)
+digits-add a x y v w x′ y′ v′ w′ e f = omega (arith, mul-add a y w, mul-add a y′ w′, ap (λ (n : ℕ). a * n) f)
+
+pub linear-add : (m i j up down : Axis → ℕ) → ((a : Axis) → j a + down a ≡ i a + up a)
+    → linear m j + linear m down ≡ linear m i + linear m up
 unfolding linear
 linear-add m i j up down h =
-    omega (arith, h along-x, mul-add (m along-x) (jl) (dl), mul-add (m along-x) il ul, ap (λ (n : ℕ). m along-x * n) lines)
-  where
-    jl : ℕ
-    jl = j along-y + m along-y * j along-z
+    digits-add (m along-x) _ _ _ _ _ _ _ _ (h along-x) (digits-add (m along-y) _ _ _ _ _ _ _ _ (h along-y) (h along-z))
 
-    dl : ℕ
-    dl = down along-y + m along-y * down along-z
-
-    il : ℕ
-    il = i along-y + m along-y * i along-z
-
-    ul : ℕ
-    ul = up along-y + m along-y * up along-z
-
-    lines : jl + dl ≡ il + ul
-    lines = omega (arith, h along-y, mul-add (m along-y) (j along-z) (down along-z), mul-add (m along-y) (i along-z) (up along-z), ap (λ (n : ℕ). m along-y * n) (h along-z))
-
-pub number-add : (s : Sizes) (k : Kind) (i j up down : Axis → ℕ) → ((a : Axis) → j a + down a ≡ i a + up a) → number s k j + linear (grid s k) down ≡ number s k i + linear (grid s k) up
+pub number-add : (s : Sizes) (k : Kind) (i j up down : Axis → ℕ) → ((a : Axis) → j a + down a ≡ i a + up a)
+    → number s k j + linear (grid s k) down ≡ number s k i + linear (grid s k) up
 number-add s Corner i j up down h = linear-add (grid s Corner) i j up down h
 number-add s Centre i j up down h = omega (arith, linear-add (grid s Centre) i j up down h)
 
@@ -110,58 +102,68 @@ far-index k i c h a low = go (long (directionOf c)) refl (one-way c h a) k low
   where
     go : (b : Bool) → long (directionOf c) ≡ b → (step c a .up ≡ 0) ⊎ (step c a .down ≡ 0) → (k : Kind) → step c a .down ≤ doubled k (i a)
         → (doubled k (i a) + step c a .up - step c a .down) / 2 + (step c a .down + 1 - oddOf k) / 2 ≡ i a + (step c a .up + oddOf k) / 2
-    go true e (inl z) Corner l = omega (arith, long-even c h a (true-T _ e))
-    go true e (inr z) Corner l = omega (arith, long-even c h a (true-T _ e))
-    go true e (inl z) Centre l = omega (arith, long-even c h a (true-T _ e))
-    go true e (inr z) Centre l = omega (arith, long-even c h a (true-T _ e))
-    go false e w Corner l = omega (arith, short-one c h a (subst (λ (b : Bool). T (not b)) (sym e) tt))
-    go false e w Centre l = omega (arith, short-one c h a (subst (λ (b : Bool). T (not b)) (sym e) tt))
+    go true e (inl z) Corner l = omega (arith, long-even c h a e)
+    go true e (inr z) Corner l = omega (arith, long-even c h a e)
+    go true e (inl z) Centre l = omega (arith, long-even c h a e)
+    go true e (inr z) Centre l = omega (arith, long-even c h a e)
+    go false e w Corner l = omega (arith, short-one c h a e)
+    go false e w Centre l = omega (arith, short-one c h a e)
 
 -- the six numbers of a code are small, and so are the indices of a site
-pub shift-small : (c : ℕ) → Code c → (t : Shift) → t ≡ shiftOf c → (t .ux ≤ 2) × (t .uy ≤ 2) × (t .uz ≤ 2) × (t .dx ≤ 2) × (t .dy ≤ 2) × (t .dz ≤ 2)
+pub shift-small : (c : ℕ) → Code c → (t : Shift) → t ≡ shiftOf c → SmallShift t
 unfolding shiftOf
-shift-small c h t e =
-    rw e (up-small c h along-x, up-small c h along-y, up-small c h along-z, down-small c h along-x, down-small c h along-y, down-small c h along-z)
+shift-small c h t e = rw e (up along-x, up along-y, up along-z, down along-x, down along-y, down along-z)
+  where
+    up : (a : Axis) → step c a .up ≤ 2
+    up = up-small c h
 
-along-small : (k : Kind) (n i : ℕ) → n ≤ 64 → i < along k n → 2 * i + oddOf k ≤ 128
-along-small Corner n i h l = omega arith
-along-small Centre n i h l = omega arith
+    down : (a : Axis) → step c a .down ≤ 2
+    down = down-small c h
+
+abbrev pub SmallAt : Site → ℕ → Type 0
+SmallAt q odd = (2 * q .x + odd ≤ 128) × (2 * q .y + odd ≤ 128) × (2 * q .z + odd ≤ 128)
 
 module _ (s : Sizes) (q : Site) (h : Sized s) (g : Sited s q) where
-  pub site-small : (2 * q .x + oddOf (q .kind) ≤ 128) × (2 * q .y + oddOf (q .kind) ≤ 128) × (2 * q .z + oddOf (q .kind) ≤ 128)
-  site-small =
-      (along-small (q .kind) _ _ (h .x-high) (g .x-in), along-small (q .kind) _ _ (h .y-high) (g .y-in), along-small (q .kind) _ _ (h .z-high) (g .z-in))
-
   pub site-inside : Inside s (q .kind) (index q)
   site-inside along-x = g .x-in
   site-inside along-y = g .y-in
   site-inside along-z = g .z-in
 
-  pub numbers-small : (q .own ≤ 1000000) × (q .across ≤ 1000000)
+  index-small : (a : Axis) → 2 * index q a + oddOf (q .kind) ≤ 128
+  index-small a = go (q .kind) (site-inside a)
+    where
+      go : (k : Kind) → index q a < grid s k a → 2 * index q a + oddOf k ≤ 128
+      go Corner l = omega (arith, l, size-high s h a)
+      go Centre l = omega (arith, l, size-high s h a)
+
+  pub site-small : SmallAt q (oddOf (q .kind))
+  site-small = (index-small along-x, index-small along-y, index-small along-z)
+
+  pub small-at : (odd : ℕ) → odd ≡ oddOf (q .kind) → SmallAt q odd
+  small-at odd e = rw e site-small
+
+  pub numbers-small : (q .own ≤ most) × (q .across ≤ most)
   unfolding linear
   numbers-small = (rw (g .own-is) (below (q .kind)), rw (g .across-is) (below (other (q .kind))))
     where
-      below : (k : Kind) → number s k (index q) ≤ 1000000
-      below Corner = omega (arith, site-small, linear-small (s .nx + 1) (s .ny + 1) (q .x) (q .y) (q .z) (omega arith) (omega arith) (omega (arith, site-small)) (omega (arith, site-small)) (omega (arith, site-small)))
-      below Centre = omega (arith, site-small, corners-small s h, linear-small (s .nx) (s .ny) (q .x) (q .y) (q .z) (omega arith) (omega arith) (omega (arith, site-small)) (omega (arith, site-small)) (omega (arith, site-small)))
+      cell-small : (a b : ℕ) → a ≤ widest → b ≤ widest → q .x + a * (q .y + b * q .z) ≤ 274624
+      cell-small a b ha hb =
+          let i = site-small in
+          linear-small a b (q .x) (q .y) (q .z) ha hb (omega (arith, i .0)) (omega (arith, i .1)) (omega (arith, i .2))
+
+      below : (k : Kind) → number s k (index q) ≤ most
+      below Corner = omega (arith, cell-small (s .nx + 1) (s .ny + 1) (omega arith) (omega arith))
+      below Centre = omega (arith, corners-small s h, cell-small (s .nx) (s .ny) (omega arith) (omega arith))
 
 -- the three tests of an edge, as the code makes them
 pub edge-tests : (s : Sizes) (q : Site) (c odd : ℕ) (t : Shift) → t ≡ shiftOf c → odd ≡ oddOf (q .kind)
-    → All₃ (exists s (q .kind) (index q) c) (staysBy (s .nx) (2 * q .x + odd) (t .ux) (t .dx)) (staysBy (s .ny) (2 * q .y + odd) (t .uy) (t .dy)) (staysBy (s .nz) (2 * q .z + odd) (t .uz) (t .dz))
+    → All₃ (exists s (q .kind) (index q) c)
+    (staysBy (s .nx) (2 * q .x + odd) (t .ux) (t .dx))
+    (staysBy (s .ny) (2 * q .y + odd) (t .uy) (t .dy))
+    (staysBy (s .nz) (2 * q .z + odd) (t .uz) (t .dz))
 unfolding staysIn shiftOf
 edge-tests s q c odd t e f =
     record { is = rw (e, f, doubled-odd (q .kind) (q .x), doubled-odd (q .kind) (q .y), doubled-odd (q .kind) (q .z)) refl }
-
--- the far end of an edge that exists, by strides: for the grid and the number of the point's indices in the far end's kind
-pub stride-is : (s : Sizes) (q : Site) (c a b base odd : ℕ) (t : Shift) → Code c → exists s (q .kind) (index q) c ≡ true
-    → a ≡ grid s (farKind (q .kind) c) along-x → b ≡ grid s (farKind (q .kind) c) along-y → base ≡ number s (farKind (q .kind) c) (index q)
-    → odd ≡ oddOf (q .kind) → t ≡ shiftOf c
-    → number s (farKind (q .kind) c) (farIndex (q .kind) (index q) c) + fallen a b odd t ≡ base + risen a b odd t
-unfolding risen fallen shiftOf linear
-stride-is s q c a b base odd t h x ea eb en eo et =
-    rw (ea, eb, en, eo, et)
-    (number-add s (farKind (q .kind) c) (index q) (farIndex (q .kind) (index q) c) (λ a. (step c a .up + oddOf (q .kind)) / 2) (λ a. (step c a .down + 1 - oddOf (q .kind)) / 2)
-    (λ a. far-index (q .kind) (index q) c h a (stays s (q .kind) (index q) c (true-T _ x) a .0)))
 
 pub far-long : (k : Kind) (c : ℕ) → (c - 1) % 7 < 3 → farKind k c ≡ k
 unfolding farKind long directionOf
@@ -184,10 +186,58 @@ pub odd-small : (k : Kind) → oddOf k ≤ 1
 odd-small Corner = omega arith
 odd-small Centre = omega arith
 
-pub near-yes : (s : Sizes) (k : Kind) (i : Axis → ℕ) (c : ℕ) → exists s k i c ≡ true → near s k i c ≡ At (number s (farKind k c) (farIndex k i c))
-unfolding near
-near-yes s k i c e = simp e
+-- an edge that exists, and what the code holds of it: the parity of the point's doubled coordinates, and the step
+pub record Going (s : Sizes) (q : Site) (c odd : ℕ) (t : Shift) : Type 0 where
+  pub sized : Sized s
+  pub sited : Sited s q
+  pub code : Code c
+  pub there : exists s (q .kind) (index q) c ≡ true
+  pub odd-is : odd ≡ oddOf (q .kind)
+  pub shift-is : t ≡ shiftOf c
 
-pub near-no : (s : Sizes) (k : Kind) (i : Axis → ℕ) (c : ℕ) → exists s k i c ≡ false → near s k i c ≡ Nothing
-unfolding near
-near-no s k i c e = simp e
+-- a stride that may be made, and that leads to the far end
+pub record Reaches (s : Sizes) (q : Site) (c a b base odd : ℕ) (t : Shift) : Type 0 where
+  pub stride : Stride a b base odd t
+  pub lands : number s (farKind (q .kind) c) (farIndex (q .kind) (index q) c) + fallen a b odd t ≡ base + risen a b odd t
+
+module _ {s : Sizes} {q : Site} {c odd : ℕ} {t : Shift} (g : Going s q c odd t) where
+  -- for the grid and the number of the point's indices in the far end's kind
+  reaches : {a b base : ℕ} (k : Kind) → farKind (q .kind) c ≡ k → a ≡ along k (s .nx) → b ≡ along k (s .ny)
+      → base ≡ number s k (index q) → base ≤ most → Reaches s q c a b base odd t
+  unfolding risen fallen shiftOf linear
+  reaches {a} {b} {base} k e ea eb en small =
+      record {
+        stride =
+            record {
+              a-small = rw ea (wide k (s .nx) (g .sized .x-high));
+              b-small = rw eb (wide k (s .ny) (g .sized .y-high));
+              base-small = small;
+              odd-small = rw (g .odd-is) (odd-small (q .kind));
+              steps-small = shift-small c (g .code) t (g .shift-is);
+              ends = omega (arith, lands);
+            };
+        lands = lands;
+      }
+    where
+      wide : (k : Kind) (n : ℕ) → n ≤ largest → along k n ≤ widest
+      wide Corner n l = omega arith
+      wide Centre n l = omega arith
+
+      lands : number s (farKind (q .kind) c) (farIndex (q .kind) (index q) c) + fallen a b odd t ≡ base + risen a b odd t
+      lands =
+          rw (e, ea, eb, en, g .odd-is, g .shift-is)
+          (number-add s k (index q) (farIndex (q .kind) (index q) c)
+          (λ a. (step c a .up + oddOf (q .kind)) / 2) (λ a. (step c a .down + 1 - oddOf (q .kind)) / 2)
+          (λ a. far-index (q .kind) (index q) c (g .code) a (stays s (q .kind) (index q) c (true-T _ (g .there)) a .0)))
+
+  -- a long edge stays in the point's own grid, a short one leads to the other
+  pub reaches-long : (c - 1) % 7 < 3 → Reaches s q c (s .nx + 1 - odd) (s .ny + 1 - odd) (q .own) odd t
+  reaches-long l =
+      reaches (q .kind) (far-long (q .kind) c l) (own-grid (q .kind) _ _ (g .odd-is)) (own-grid (q .kind) _ _ (g .odd-is))
+      (g .sited .own-is) (numbers-small s q (g .sized) (g .sited) .0)
+
+  pub reaches-short : 3 ≤ (c - 1) % 7 → Reaches s q c (s .nx + odd) (s .ny + odd) (q .across) odd t
+  reaches-short l =
+      reaches (other (q .kind)) (far-short (q .kind) c l)
+      (other-grid (q .kind) _ _ (g .odd-is)) (other-grid (q .kind) _ _ (g .odd-is))
+      (g .sited .across-is) (numbers-small s q (g .sized) (g .sited) .1)

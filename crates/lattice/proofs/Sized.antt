@@ -30,14 +30,19 @@ fits-sized s e =
     high : (a : Axis) → size s a ≤ largest
     high a = leb→le _ _ (&&-r (leb 1 (size s a)) _ (at a))
 
-pub sized-fits : (s : Sizes) → Sized s → sizesFit s ≡ true
-unfolding sizesFit
-sized-fits s z = T-true _ (everywhere-i (λ a. leb 1 (size s a) && leb (size s a) largest) both)
-  where
-    one : (n : ℕ) → 1 ≤ n → n ≤ largest → T (leb 1 n && leb n largest)
-    one n l h = &&-i (leb 1 n) (leb n largest) (le→leb 1 n l) (le→leb n largest h)
+module _ (s : Sizes) (z : Sized s) where
+  pub size-low : (a : Axis) → 1 ≤ size s a
+  size-low along-x = z .x-low
+  size-low along-y = z .y-low
+  size-low along-z = z .z-low
 
-    both : (a : Axis) → T (leb 1 (size s a) && leb (size s a) largest)
-    both along-x = one (s .nx) (z .x-low) (z .x-high)
-    both along-y = one (s .ny) (z .y-low) (z .y-high)
-    both along-z = one (s .nz) (z .z-low) (z .z-high)
+  pub size-high : (a : Axis) → size s a ≤ largest
+  size-high along-x = z .x-high
+  size-high along-y = z .y-high
+  size-high along-z = z .z-high
+
+  pub sized-fits : sizesFit s ≡ true
+  unfolding sizesFit
+  sized-fits =
+      T-true _ (everywhere-i (λ a. leb 1 (size s a) && leb (size s a) largest)
+      (λ a. &&-i (leb 1 (size s a)) _ (le→leb 1 _ (size-low a)) (le→leb _ largest (size-high a))))

@@ -15,6 +15,10 @@ size s = xyz (s .nx) (s .ny) (s .nz)
 abbrev pub largest : ℕ
 largest = 64
 
+-- and the most points of a kind along an axis
+abbrev pub widest : ℕ
+widest = 65
+
 -- "each 1 to 64", as a test and as a fact
 unfoldable pub sizesFit : Sizes → Bool
 sizesFit s = everywhere (λ a. leb 1 (size s a) && leb (size s a) largest)
@@ -46,6 +50,10 @@ corners s = cells (grid s Corner)
 
 unfoldable pub points : Sizes → ℕ
 points s = corners s + cells (grid s Centre)
+
+-- the most that a block has: 65³ corners and 64³ centres
+abbrev pub mostPoints : ℕ
+mostPoints = 536769
 
 -- "4 times the sum of (nx-1)·ny·nz, nx·(ny-1)·nz and nx·ny·(nz-1)"
 unfoldable pub tetrahedra : Sizes → ℕ

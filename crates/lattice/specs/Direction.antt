@@ -57,6 +57,7 @@ asEnd d = d + 8
 unfoldable pub isStart : ℕ → Bool
 isStart c = leb c 7
 
+-- a code is at least 1, so `c - 1` cuts nothing off
 unfoldable pub directionOf : ℕ → ℕ
 directionOf c = (c - 1) % 7
 

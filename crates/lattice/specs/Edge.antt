@@ -24,6 +24,7 @@ exists s k i c = everywhere (staysIn s k i c)
 unfoldable pub farKind : Kind → ℕ → Kind
 farKind k c = if long (directionOf c) then k else other k
 
+-- where the edge exists the step down is no longer than the way to 0, so `-` cuts nothing off
 unfoldable pub farIndex : Kind → (Axis → ℕ) → ℕ → Axis → ℕ
 farIndex k i c a = (doubled k (i a) + step c a .up - step c a .down) / 2
 

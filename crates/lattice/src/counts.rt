@@ -5,11 +5,14 @@ ghost use mathlib.Core.Bool.{_&&_};
 ghost use lib.Dec.{leb};
 ghost use Rattle.lattice.specs.Counts.{Sized, sizesFit, largest, corners, points, tetrahedra};
 
+// The largest size.
+const LARGEST: usize = 64;
+
 fn size_fits(n: usize) -> bool
     ensures { λ r. ⌜ r ≡ (leb 1 n && leb n largest) ⌝ }
 {
     if 1 <= n {
-        return n <= 64;
+        return n <= LARGEST;
     }
     false
 }

@@ -8,11 +8,16 @@ use crate::numbers;
 ghost use mathlib.Core.Path.{_≡_};
 ghost use mathlib.Core.Bool.{true};
 ghost use Prim.Native.Nat.{_+_, _*_, _-_, _<_, _≤_};
-ghost use Rattle.lattice.specs.Counts.{Sized};
+ghost use Rattle.lattice.specs.Counts.{Sized, largest};
 ghost use Rattle.lattice.specs.Direction.{Code};
 ghost use Rattle.lattice.specs.Point.{number};
 ghost use Rattle.lattice.specs.Edge.{exists, farKind, farIndex, near, edgeByte};
-ghost use Rattle.lattice.specs.inner.Site.{Sited, index, oddOf, staysBy, shiftAlong, shiftOf, risen, fallen, Stride};
+ghost use Rattle.lattice.specs.inner.Site.{most, Sited, index, oddOf, staysBy, shiftAlong, shiftOf, risen, fallen, Stride};
+
+// How many directions there are, and how many of them are long.
+const DIRECTIONS: usize = 7;
+
+const LONG: usize = 3;
 
 // So far up along x, y and z, and so far down.
 fn shift_by(ux: usize, uy: usize, uz: usize, dx: usize, dy: usize, dz: usize) -> Shift
@@ -48,8 +53,8 @@ pub fn shift(code: usize) -> Shift
     requires { ⌜ Code code ⌝ }
     ensures { λ r. ⌜ r ≡ shiftOf code ⌝ }
 {
-    let t = direction((code - 1) % 7);
-    if code <= 7 {
+    let t = direction((code - 1) % DIRECTIONS);
+    if code <= DIRECTIONS {
         return t;
     }
     Shift {
@@ -74,7 +79,7 @@ pub fn odd_of(kind: Kind) -> usize
 
 // A step from the doubled coordinate w stays between 0 and 2n.
 fn stays(n: usize, w: usize, up: usize, down: usize) -> bool
-    requires { ⌜ (n ≤ 64) × (w ≤ 129) × (up ≤ 2) × (down ≤ 2) ⌝ }
+    requires { ⌜ (n ≤ largest) × (w ≤ 2 * largest + 1) × (up ≤ 2) × (down ≤ 2) ⌝ }
     ensures { λ r. ⌜ r ≡ staysBy n w up down ⌝ }
 {
     if down <= w {
@@ -113,7 +118,7 @@ fn reach(s: Sizes, q: Site, code: usize) -> usize
     let t = shift(code);
     let kind = q.kind;
     let odd = odd_of(kind);
-    if (code - 1) % 7 < 3 {
+    if (code - 1) % DIRECTIONS < LONG {
         return stride(s.nx + 1 - odd, s.ny + 1 - odd, q.own, odd, t);
     }
     stride(s.nx + odd, s.ny + odd, q.across, odd, t)
@@ -150,13 +155,13 @@ pub fn neighbour(s: Sizes, q: Site, code: usize) -> Near
 
 // The byte of the cut table that the edge from p by a code to q has.
 pub fn edge_byte(p: usize, code: usize, q: usize) -> usize
-    requires { ⌜ (p < 1000000) × (q < 1000000) ⌝ }
+    requires { ⌜ (p < most) × (q < most) ⌝ }
     requires { ⌜ Code code ⌝ }
     ensures { λ r. ⌜ r ≡ edgeByte p code q ⌝ }
 {
-    let d = (code - 1) % 7;
-    if code <= 7 {
-        return 7 * p + d;
+    let d = (code - 1) % DIRECTIONS;
+    if code <= DIRECTIONS {
+        return DIRECTIONS * p + d;
     }
-    7 * q + d
+    DIRECTIONS * q + d
 }

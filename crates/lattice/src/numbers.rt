@@ -6,13 +6,13 @@ use crate::counts;
 ghost use mathlib.Core.Path.{_≡_};
 ghost use Prim.Native.Nat.{_+_, _*_, _<_, _≤_};
 ghost use Rattle.lattice.specs.Axis.{xyz};
-ghost use Rattle.lattice.specs.Counts.{Sized, corners, points};
+ghost use Rattle.lattice.specs.Counts.{Sized, largest, widest, corners, points};
 ghost use Rattle.lattice.specs.Point.{number};
 ghost use Rattle.lattice.specs.inner.Site.{siteAt, siteOf};
 
 // The number of a cell in a grid of a by b by any.
 pub fn linear(a: usize, b: usize, x: usize, y: usize, z: usize) -> usize
-    requires { ⌜ (a ≤ 65) × (b ≤ 65) × (x ≤ 64) × (y ≤ 64) × (z ≤ 64) ⌝ }
+    requires { ⌜ (a ≤ widest) × (b ≤ widest) × (x ≤ largest) × (y ≤ largest) × (z ≤ largest) ⌝ }
     ensures { λ r. ⌜ r ≡ x + a * (y + b * z) ⌝ }
     ensures { λ r. ⌜ r ≤ 274624 ⌝ }
 {
@@ -24,7 +24,7 @@ pub fn linear(a: usize, b: usize, x: usize, y: usize, z: usize) -> usize
 // The site of the point of a kind with these indices.
 pub fn site_at(s: Sizes, kind: Kind, x: usize, y: usize, z: usize) -> Site
     requires { ⌜ Sized s ⌝ }
-    requires { ⌜ (x ≤ 64) × (y ≤ 64) × (z ≤ 64) ⌝ }
+    requires { ⌜ (x ≤ largest) × (y ≤ largest) × (z ≤ largest) ⌝ }
     ensures { λ r. ⌜ r ≡ siteAt s kind (xyz x y z) ⌝ }
 {
     let among_corners = linear(s.nx + 1, s.ny + 1, x, y, z);

@@ -52,8 +52,10 @@ fn lend(
 fn refill(l: Lengths, body: &[u8], samples: &[i16], state: &mut [u8], rows: &mut [u32]) -> Filled
     requires { ⌜ stateAt l ≤ length (now body) ⌝ }
     ensures { λ r. ⌜ r ≡ fill (blockWith (now (body .entry)) l (now (samples .entry))) (now (state .entry)) (now (rows .entry)) .answer ⌝ }
-    ensures { λ _. ⌜ now (state .exit) ≡ fill (blockWith (now (body .entry)) l (now (samples .entry))) (now (state .entry)) (now (rows .entry)) .state ⌝ }
-    ensures { λ _. ⌜ now (rows .exit) ≡ fill (blockWith (now (body .entry)) l (now (samples .entry))) (now (state .entry)) (now (rows .entry)) .rows ⌝ }
+    ensures { λ _. ⌜ now (state .exit)
+        ≡ fill (blockWith (now (body .entry)) l (now (samples .entry))) (now (state .entry)) (now (rows .entry)) .state ⌝ }
+    ensures { λ _. ⌜ now (rows .exit)
+        ≡ fill (blockWith (now (body .entry)) l (now (samples .entry))) (now (state .entry)) (now (rows .entry)) .rows ⌝ }
 {
     let first = 3 + 2 * l.samples;
     let end = first + l.cuts;
@@ -127,7 +129,9 @@ pub fn agrees(
     state: &mut [u8],
     rows: &mut [u32],
 ) -> bool
-    ensures { λ r. ⌜ r ≡ fillAgrees (now (head .entry)) (now (body .entry)) (length (now (samples .entry))) (length (now (state .entry))) (length (now (rows .entry))) ⌝ }
+    ensures { λ r. ⌜ r
+        ≡ fillAgrees (now (head .entry)) (now (body .entry))
+        (length (now (samples .entry))) (length (now (state .entry))) (length (now (rows .entry))) ⌝ }
 {
     let l = heads::lengths_of(head);
     if !heads::is_fitting(l, body.len(), samples.len(), state.len(), rows.len()) {

@@ -7,7 +7,7 @@ ghost use mathlib.Core.Path.{_≡_};
 ghost use Prim.Native.Nat.{_+_, _*_, _<_, _≤_};
 ghost use lib.ListN.{length};
 ghost use Rattle.blockfile.specs.Format.{fileSizes};
-ghost use Rattle.replay.specs.program.Questions.{askedOf, samePlace, statedPlace, answered, allAnswered, questionsAt, placesAgreeWith, placesAgree};
+ghost use Rattle.replay.specs.program.Questions.{askedOf, samePlace, statedPlace, answered, allAnswered, placesAgree};
 
 fn asked_of(head: &[u8; 48]) -> Asked
     ensures { λ r. ⌜ r ≡ askedOf (now (head .entry)) ⌝ }
@@ -65,7 +65,9 @@ fn is_answered(body: &[u8], number: u32, cuts: &[u8], state: &[u8], i: usize) ->
 // Asks all questions again, from the one at `first` on.
 fn are_answered(body: &[u8], a: Asked, cuts: &[u8], state: &[u8], first: usize) -> bool
     requires { ⌜ (3 ≤ length (now body)) × (first + 10 * a .questions ≤ length (now body)) ⌝ }
-    ensures { λ r. ⌜ r ≡ allAnswered (now (body .entry)) (a .number) (fileSizes (now (body .entry))) (now (cuts .entry)) (now (state .entry)) first (a .questions) ⌝ }
+    ensures { λ r. ⌜ r
+        ≡ allAnswered (now (body .entry)) (a .number) (fileSizes (now (body .entry)))
+        (now (cuts .entry)) (now (state .entry)) first (a .questions) ⌝ }
 {
     for i in 0..a.questions {
         if !is_answered(body, a.number, cuts, state, first + 10 * i) {

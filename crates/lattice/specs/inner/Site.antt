@@ -9,9 +9,13 @@ use Rattle.lattice.specs.declared.Kind.the-variants.{Corner, Centre}
 use Rattle.lattice.specs.declared.Site.{Site}
 use Rattle.lattice.specs.declared.Shift.{Shift}
 use Rattle.lattice.specs.Axis.{Axis, along-x, along-y, along-z, xyz}
-use Rattle.lattice.specs.Counts.{grid}
+use Rattle.lattice.specs.Counts.{widest, grid}
 use Rattle.lattice.specs.Point.{other, number, kindOf, indexOf}
 use Rattle.lattice.specs.Direction.{Step, direction, step}
+
+-- a bound that the numbers of all points are below, rounder than `mostPoints`
+abbrev pub most : ℕ
+most = 1000000
 
 abbrev pub index : Site → Axis → ℕ
 index q = xyz (q .x) (q .y) (q .z)
@@ -52,6 +56,10 @@ shiftBy t =
       dz = t along-z .down;
     }
 
+-- none is more than 2
+abbrev pub SmallShift : Shift → Type 0
+SmallShift t = (t .ux ≤ 2) × (t .uy ≤ 2) × (t .uz ≤ 2) × (t .dx ≤ 2) × (t .dy ≤ 2) × (t .dz ≤ 2)
+
 -- the numbers of a direction; how far a code leads
 unfoldable pub shiftAlong : ℕ → Shift
 shiftAlong d = shiftBy (direction d)
@@ -71,9 +79,9 @@ fallen a b odd t = (t .dx + 1 - odd) / 2 + a * ((t .dy + 1 - odd) / 2 + b * ((t 
 
 -- what a stride asks: small numbers, and an end that is not below 0
 pub record Stride (a b base odd : ℕ) (t : Shift) : Type 0 where
-  pub a-small : a ≤ 65
-  pub b-small : b ≤ 65
-  pub base-small : base ≤ 1000000
+  pub a-small : a ≤ widest
+  pub b-small : b ≤ widest
+  pub base-small : base ≤ most
   pub odd-small : odd ≤ 1
-  pub steps-small : (t .ux ≤ 2) × (t .uy ≤ 2) × (t .uz ≤ 2) × (t .dx ≤ 2) × (t .dy ≤ 2) × (t .dz ≤ 2)
+  pub steps-small : SmallShift t
   pub ends : fallen a b odd t ≤ base + risen a b odd t

@@ -1,13 +1,20 @@
 -- Each way out by the checks that led there. Assumes nothing.
+use Prim.Native.Nat.{_≤_}
 use mathlib.Core.Path.{sym, _∙_}
 use native.Mathlib.Omega.{arith}
 use borrow.Author.Needs.{needs}
 use borrow.Author.Tests.{not-true, not-false}
+use Rattle.lattice.specs.Counts.{mostPoints}
 use Rattle.lattice.proofs.Bounds.{points-small}
 use Rattle.blockfile.proofs.Parts.{well-formed, first-end}
 use Rattle.blockfile.proofs.Outcome.{refusal-is, refuse-samples, refuse-cuts, refuse-file, taken-answer}
 use Rattle.blockfile.proofs.file.check_body.Statement.{statement}
 use Rattle.blockfile.proofs.file.check_body.Tie as tie
+
+small : (at-count : tie.After-point-count) → at-count .point-count .result ≤ mostPoints
+small at-count =
+    let at-start = at-count .before .before .before in
+    omega (arith, points-small (at-start .args .s) (at-start .pre), at-count .point-count .ensures)
 
 point-count-requires : tie.Need-point-count-requires
 point-count-requires c κs = search needs
@@ -20,9 +27,7 @@ returns c =
     refusal-is _ _ 12 (refuse-samples _ _ _ _ (c .before .before .point-count .ensures) (c .before .if1 .taken)) (c .refused .ensures)
 
 mul-if2 : tie.Need-mul-if2
-mul-if2 c =
-    let a = c .before in
-    omega (arith, points-small (a .before .before .before .args .s) (a .before .before .before .pre), a .point-count .ensures)
+mul-if2 c = omega (arith, small (c .before))
 
 refused-requires-2 : tie.Need-refused-requires-2
 refused-requires-2 c κs = search needs
@@ -34,34 +39,37 @@ returns-2 c =
     (c .refused2 .ensures)
 
 is-well-formed-requires : tie.Need-is-well-formed-requires
-is-well-formed-requires c κs =
-    let a = c .before .before in
-    omega (arith, points-small (a .before .before .before .args .s) (a .before .before .before .pre), a .point-count .ensures)
+is-well-formed-requires c κs = small (c .before .before)
 
 refused-requires-3 : tie.Need-refused-requires-3
 refused-requires-3 c κs = search needs
 
 returns-3 : tie.Need-returns-3
 returns-3 c =
+    let at-check = c .before .before in
+    let at-if2 = at-check .before in
+    let at-if1 = at-if2 .before in
     refusal-is _ _ 11
-    (refuse-file _ _ _ _ (c .before .before .before .before .before .point-count .ensures) (c .before .before .before .before .if1 .left)
-    (c .before .before .before .if2 .left) (sym (c .before .before .is-well-formed .ensures) ∙ not-true _ (c .before .if3 .taken)))
+    (refuse-file _ _ _ _ (at-if1 .before .point-count .ensures) (at-if1 .if1 .left) (at-if2 .if2 .left)
+    (sym (at-check .is-well-formed .ensures) ∙ not-true _ (c .before .if3 .taken)))
     (c .refused3 .ensures)
 
 end-of-requires : tie.Need-end-of-requires
 end-of-requires c κs =
-    let a = c .before .before .before .before in
-    let small = points-small (a .before .before .before .args .s) (a .before .before .before .pre) in
-    let bytes = a .before .before .before .args .bytes .now in
-    let w = well-formed bytes (a .point-count .result) (sym (c .before .is-well-formed .ensures) ∙ not-false _ (c .if3 .left)) in
-    (omega (arith, small, a .point-count .ensures), omega (arith, w .long, first-end bytes (a .point-count .result)))
+    let at-count = c .before .before .before .before in
+    let bytes = at-count .before .before .before .args .bytes .now in
+    let n = at-count .point-count .result in
+    let w = well-formed bytes n (sym (c .before .is-well-formed .ensures) ∙ not-false _ (c .if3 .left)) in
+    (small at-count, omega (arith, w .long, first-end bytes n))
 
 returns-4 : tie.Need-returns-4
 returns-4 c =
-    let g = c .before in
-    taken-answer _ _ _ _ (g .before .before .before .before .point-count .ensures) (g .before .before .before .if1 .left)
-    (g .before .before .if2 .left)
-    (sym (g .before .is-well-formed .ensures) ∙ not-false _ (g .if3 .left)) (c .end-of .ensures)
+    let at-if3 = c .before in
+    let at-check = at-if3 .before in
+    let at-if2 = at-check .before in
+    let at-if1 = at-if2 .before in
+    taken-answer _ _ _ _ (at-if1 .before .point-count .ensures) (at-if1 .if1 .left) (at-if2 .if2 .left)
+    (sym (at-check .is-well-formed .ensures) ∙ not-false _ (at-if3 .if3 .left)) (c .end-of .ensures)
 
 pub check-body-spec : {M : Type 1} → statement M
 check-body-spec =

@@ -1,8 +1,6 @@
 -- A refusal is handed on; a file that passed the checks is written. Assumes nothing.
-use native.Mathlib.Omega.{arith}
 use borrow.Author.Needs.{needs}
-use Rattle.lattice.proofs.Bounds.{points-small}
-use Rattle.blockfile.proofs.Checked.{untouched, readable-as, written}
+use Rattle.blockfile.proofs.Checked.{untouched, readable-as, ready, written}
 use Rattle.blockfile.proofs.file.read.Statement.{statement}
 use Rattle.blockfile.proofs.file.read.Tie as tie
 
@@ -23,10 +21,9 @@ points-of-requires c κs = readable-as _ _ _ _ (c .before .before .check .ensure
 
 write-tables-requires : tie.Need-write-tables-requires
 write-tables-requires c κs =
-    let g = c .before .before in
-    let w = readable-as _ _ _ _ (g .before .before .before .check .ensures) (g .before .if1 .left) in
-    let n = g .points-of .ensures in
-    ((omega (arith, n, points-small _ (w .sized)), rw n (w .well)), (omega (arith, n, w .room), omega (arith, n, w .roomy)))
+    let at-points = c .before .before in
+    let at-if1 = at-points .before in
+    ready _ _ _ _ (at-if1 .before .before .check .ensures) (at-if1 .if1 .left) (at-points .points-of .ensures)
 
 same-length-3 : tie.Need-same-length-3
 same-length-3 c = search needs
@@ -36,9 +33,11 @@ same-length-4 c = search needs
 
 returns-2 : tie.Need-returns-2
 returns-2 c =
-    let t = c .before .before .before .write-tables .ensures in
-    let g = c .before .before .before .before .before .before in
-    written _ _ _ _ (g .before .before .before .check .ensures) (g .before .if1 .left) (g .points-of .ensures) (t .0) (t .1)
+    let at-tables = c .before .before .before in
+    let at-points = at-tables .before .before .before in
+    let at-if1 = at-points .before in
+    let tables = at-tables .write-tables .ensures in
+    written _ _ _ _ (at-if1 .before .before .check .ensures) (at-if1 .if1 .left) (at-points .points-of .ensures) (tables .0) (tables .1)
 
 pub read-spec : {M : Type 1} → statement M
 read-spec =

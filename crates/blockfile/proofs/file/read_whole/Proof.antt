@@ -1,8 +1,6 @@
 -- As reading, with a refusal of what follows the file. Assumes nothing.
-use native.Mathlib.Omega.{arith}
 use borrow.Author.Needs.{needs}
-use Rattle.lattice.proofs.Bounds.{points-small}
-use Rattle.blockfile.proofs.Checked.{is-of, refused-is, untouched, readable-as, written, whole-refused, whole-long, whole-all}
+use Rattle.blockfile.proofs.Checked.{is-of, refused-is, untouched, readable-as, ready, written, whole-refused, whole-long, whole-all}
 use Rattle.blockfile.proofs.file.read_whole.Statement.{statement}
 use Rattle.blockfile.proofs.file.read_whole.Tie as tie
 
@@ -31,18 +29,21 @@ same-length-4 c = search needs
 
 returns-2 : tie.Need-returns-2
 returns-2 c =
-    let g = c .before .before .before in
-    is-of (whole-long _ _ _ _ (g .before .before .check .ensures) (g .if1 .left) (c .before .if2 .taken)) (refused-is _ _ 11 (c .refused .ensures))
+    let at-if2 = c .before in
+    let at-if1 = at-if2 .before .before in
+    is-of (whole-long _ _ _ _ (at-if1 .before .before .check .ensures) (at-if1 .if1 .left) (at-if2 .if2 .taken))
+    (refused-is _ _ 11 (c .refused .ensures))
 
 points-of-requires : tie.Need-points-of-requires
-points-of-requires c κs = readable-as _ _ _ _ (c .before .before .before .before .check .ensures) (c .before .before .if1 .left) .sized
+points-of-requires c κs =
+    let at-if1 = c .before .before in
+    readable-as _ _ _ _ (at-if1 .before .before .check .ensures) (at-if1 .if1 .left) .sized
 
 write-tables-requires : tie.Need-write-tables-requires
 write-tables-requires c κs =
-    let g = c .before .before in
-    let w = readable-as _ _ _ _ (g .before .before .before .before .before .check .ensures) (g .before .before .before .if1 .left) in
-    let n = g .points-of .ensures in
-    ((omega (arith, n, points-small _ (w .sized)), rw n (w .well)), (omega (arith, n, w .room), omega (arith, n, w .roomy)))
+    let at-points = c .before .before in
+    let at-if1 = at-points .before .before .before in
+    ready _ _ _ _ (at-if1 .before .before .check .ensures) (at-if1 .if1 .left) (at-points .points-of .ensures)
 
 same-length-5 : tie.Need-same-length-5
 same-length-5 c = search needs
@@ -52,11 +53,14 @@ same-length-6 c = search needs
 
 returns-3 : tie.Need-returns-3
 returns-3 c =
-    let t = c .before .before .before .write-tables .ensures in
-    let g = c .before .before .before .before .before .before in
-    let e = g .before .before .before .if1 .left in
-    let p = g .before .before .before .before .before .check .ensures in
-    is-of (whole-all _ _ _ _ p e (g .before .if2 .left)) (written _ _ _ _ p e (g .points-of .ensures) (t .0) (t .1))
+    let at-tables = c .before .before .before in
+    let at-points = at-tables .before .before .before in
+    let at-if2 = at-points .before in
+    let at-if1 = at-if2 .before .before in
+    let p = at-if1 .before .before .check .ensures in
+    let e = at-if1 .if1 .left in
+    let tables = at-tables .write-tables .ensures in
+    is-of (whole-all _ _ _ _ p e (at-if2 .if2 .left)) (written _ _ _ _ p e (at-points .points-of .ensures) (tables .0) (tables .1))
 
 pub read-whole-spec : {M : Type 1} → statement M
 read-whole-spec =

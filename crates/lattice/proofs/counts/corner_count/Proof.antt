@@ -1,7 +1,6 @@
 -- The products fit, and their product is the definition. Assumes nothing.
 use mathlib.Core.Path.{refl}
-use native.Mathlib.Nat.{mul-le-mul}
-use Rattle.lattice.proofs.Bounds.{small}
+use Rattle.lattice.proofs.Bounds.{small, small₃}
 use Rattle.lattice.specs.Counts.{cells}
 use borrow.Author.Needs.{needs}
 use Rattle.lattice.proofs.counts.corner_count.Statement.{statement}
@@ -20,7 +19,7 @@ mul-result : tie.Need-mul-result
 mul-result c = record { fits = small 65 65 (search needs) (search needs) tt }
 
 mul-result-2 : tie.Need-mul-result-2
-mul-result-2 c = record { fits = small 65 4225 (search needs) (mul-le-mul {n₂ = 65} {m₂ = 65} (search needs) (search needs)) tt }
+mul-result-2 c = record { fits = small₃ 65 65 65 (search needs) (search needs) (search needs) tt }
 
 returns : tie.Need-returns
 unfolding cells

@@ -1,8 +1,7 @@
 -- The sum fits, and it is the definition. Assumes nothing.
 use mathlib.Core.Path.{ap}
-use native.Mathlib.Nat.{mul-le-mul}
 use native.Mathlib.Omega.{arith}
-use Rattle.lattice.proofs.Bounds.{small, product₃, corners-small}
+use Rattle.lattice.proofs.Bounds.{small, small₃, points-small}
 use Rattle.lattice.specs.Counts.{grid, cells, points}
 use Rattle.lattice.specs.declared.Kind.the-variants.{Centre}
 use Prim.Native.Nat.{ℕ, _+_}
@@ -17,16 +16,20 @@ mul-centre : tie.Need-mul-centre
 mul-centre c = record { fits = small 64 64 (search needs) (search needs) tt }
 
 mul-centre-2 : tie.Need-mul-centre-2
-mul-centre-2 c = record { fits = small 64 4096 (search needs) (mul-le-mul {n₂ = 64} {m₂ = 64} (search needs) (search needs)) tt }
+mul-centre-2 c = record { fits = small₃ 64 64 64 (search needs) (search needs) (search needs) tt }
 
 add-result : tie.Need-add-result
+unfolding points cells
 add-result c =
-    let a = c .before .before .before in
-    omega (arith, corners-small (a .args .s) (a .pre), c .before .before .corner-count .ensures, product₃ 64 64 64 (a .pre .x-high) (a .pre .y-high) (a .pre .z-high))
+    let at-corners = c .before .before in
+    let at-start = at-corners .before in
+    omega (arith, at-corners .corner-count .ensures, points-small (at-start .args .s) (at-start .pre))
 
 returns : tie.Need-returns
 unfolding points cells
-returns c = ap (λ (n : ℕ). n + cells (grid (c .before .before .before .args .s) Centre)) (c .before .before .corner-count .ensures)
+returns c =
+    let at-corners = c .before .before in
+    ap (λ (n : ℕ). n + cells (grid (at-corners .before .args .s) Centre)) (at-corners .corner-count .ensures)
 
 pub point-count-spec : {M : Type 1} → statement M
 point-count-spec =

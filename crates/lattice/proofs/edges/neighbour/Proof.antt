@@ -11,8 +11,9 @@ is-edge-requires c κs = search needs
 
 reach-requires : tie.Need-reach-requires
 reach-requires c κs =
-    let a = c .before .before in
-    (a .pre .0, (a .pre .1 .0, (a .pre .1 .1, sym (c .before .is-edge .ensures) ∙ c .if1 .taken)))
+    let at-edge = c .before in
+    let given = at-edge .before .pre in
+    (given .0, (given .1 .0, (given .1 .1, sym (at-edge .is-edge .ensures) ∙ c .if1 .taken)))
 
 returns : tie.Need-returns
 returns c = ap At (c .reach .ensures) ∙ sym (near-yes _ _ _ _ (sym (c .before .before .is-edge .ensures) ∙ c .before .if1 .taken))

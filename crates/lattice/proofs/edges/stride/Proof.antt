@@ -43,13 +43,16 @@ add-result c = search needs
 
 sub-result : tie.Need-sub-result
 unfolding risen fallen
-sub-result c = let a = c .before .before .before .before .before .before .before .before in
-    omega (arith, a .pre .ends, c .linear2 .ensures .0, c .before .before .before .before .linear .ensures .0)
+sub-result c =
+    let at-rise = c .before .before .before .before in
+    let at-start = at-rise .before .before .before .before in
+    omega (arith, at-start .pre .ends, at-rise .linear .ensures .0, c .linear2 .ensures .0)
 
 returns : tie.Need-returns
 unfolding risen fallen
-returns c = let a = c .before .before .before .before .before .before .before .before in
-    omega (arith, c .linear2 .ensures .0, c .before .before .before .before .linear .ensures .0)
+returns c =
+    let at-rise = c .before .before .before .before in
+    omega (arith, at-rise .linear .ensures .0, c .linear2 .ensures .0)
 
 pub stride-spec : {M : Type 1} → statement M
 stride-spec =

@@ -37,8 +37,9 @@ div-site-at : tie.Need-div-site-at
 div-site-at c = search needs
 
 site-at-requires : tie.Need-site-at-requires
-site-at-requires c κs = let a = c .before .before .before .before .before .before in
-    (a .pre .0, corner-small (a .args .s) (a .pre .0) (a .args .p) (omega arith))
+site-at-requires c κs =
+    let at-start = c .before .before .before .before .before .before in
+    (at-start .pre .0, corner-small (at-start .args .s) (at-start .pre .0) (at-start .args .p) (omega arith))
 
 returns : tie.Need-returns
 unfolding cell
@@ -58,12 +59,17 @@ div-site-at-2 c = search needs
 
 site-at-requires-2 : tie.Need-site-at-requires-2
 unfolding points
-site-at-requires-2 c κs = let a = c .before .before .before .before .before .before in
-    (a .pre .0, centre-small (a .args .s) (a .pre .0) (a .args .p - c .before .before .before .before .before .corner-count .result) (omega arith))
+site-at-requires-2 c κs =
+    let at-count = c .before .before .before .before .before in
+    let at-start = at-count .before in
+    let p = at-start .args .p - at-count .corner-count .result in
+    (at-start .pre .0, centre-small (at-start .args .s) (at-start .pre .0) p (omega arith))
 
 returns-2 : tie.Need-returns-2
 unfolding cell
-returns-2 c = c .site-at2 .ensures ∙ sym (site-high _ _ _ (c .before .before .before .before .before .before .corner-count .ensures) (omega arith))
+returns-2 c =
+    let at-count = c .before .before .before .before .before .before in
+    c .site-at2 .ensures ∙ sym (site-high _ _ _ (at-count .corner-count .ensures) (omega arith))
 
 pub locate-spec : {M : Type 1} → statement M
 locate-spec =

@@ -29,7 +29,9 @@ linear-requires-2 : tie.Need-linear-requires-2
 linear-requires-2 c κs = search needs
 
 add-among-centres : tie.Need-add-among-centres
-add-among-centres c = omega (arith, corners-small (c .before .before .before .before .before .args .s) (c .before .before .before .before .before .pre .0))
+add-among-centres c =
+    let at-start = c .before .before .before .before .before in
+    omega (arith, corners-small (at-start .args .s) (at-start .pre .0))
 
 enum-told : tie.Need-enum-told
 enum-told c = search needs
@@ -39,11 +41,23 @@ enum-told-2 c = search needs
 
 returns : tie.Need-returns
 unfolding linear
-returns c = rw (c .enum-told .given .1) (site-is _ Corner _ _ _ _ _ (c .before .before .before .before .linear .ensures .0) (both (c .before .before .before .corner-count .ensures) (c .before .before .linear2 .ensures .0)))
+returns c =
+    let at-centres = c .before .before in
+    let at-count = at-centres .before in
+    rw (c .enum-told .given .1)
+    (site-is _ Corner _ _ _ _ _
+    (at-count .before .linear .ensures .0)
+    (both (at-count .corner-count .ensures) (at-centres .linear2 .ensures .0)))
 
 returns-2 : tie.Need-returns-2
 unfolding linear
-returns-2 c = rw (c .enum-told2 .given .1) (site-is _ Centre _ _ _ _ _ (both (c .before .before .before .corner-count .ensures) (c .before .before .linear2 .ensures .0)) (c .before .before .before .before .linear .ensures .0))
+returns-2 c =
+    let at-centres = c .before .before in
+    let at-count = at-centres .before in
+    rw (c .enum-told2 .given .1)
+    (site-is _ Centre _ _ _ _ _
+    (both (at-count .corner-count .ensures) (at-centres .linear2 .ensures .0))
+    (at-count .before .linear .ensures .0))
 
 pub site-at-spec : {M : Type 1} → statement M
 site-at-spec =

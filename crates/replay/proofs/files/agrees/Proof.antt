@@ -1,8 +1,9 @@
 -- The head, then the file. Assumes nothing.
 use mathlib.Core.Path.{sym, _∙_}
+use lib.ListN.{length}
 use lib.Seq.{length-take-le}
 use borrow.Author.Tests.{not-true, not-false}
-use Rattle.replay.proofs.Reading.{it-fits, no-file, file-decides}
+use Rattle.replay.proofs.Reading.{Fitting, it-fits, no-file, file-decides}
 use borrow.Author.Needs.{needs}
 use Rattle.replay.proofs.files.agrees.Statement.{statement}
 use Rattle.replay.proofs.files.agrees.Tie as tie
@@ -16,25 +17,28 @@ is-fitting-requires c κs = search needs
 returns : tie.Need-returns
 returns c = no-file _ _ _ _ _ (c .before .before .filed-of .ensures .0) (c .before .is-fitting .ensures) (not-true _ (c .if1 .taken))
 
+-- the record fits
+checked : (at-if1 : tie.Else1)
+    → let at-filed = at-if1 .before .before in
+    let given = at-filed .before .before .before .args in
+    Fitting (at-filed .filed-of .result) (length (given .body .now)) (length (given .samples .now)) (length (given .cuts .now))
+checked at-if1 = it-fits _ _ _ _ (sym (at-if1 .before .is-fitting .ensures) ∙ not-false _ (at-if1 .if1 .left))
+
 slice-relend-prefix-is-agreed : tie.Need-slice-relend-prefix-is-agreed
-slice-relend-prefix-is-agreed c = (it-fits _ _ _ _ (sym (c .before .is-fitting .ensures) ∙ not-false _ (c .if1 .left))) .sample-room
+slice-relend-prefix-is-agreed c = checked c .sample-room
 
 slice-aggregate-is-agreed : tie.Need-slice-aggregate-is-agreed
-slice-aggregate-is-agreed c =
-    let w = it-fits _ _ _ _ (sym (c .before .before .is-fitting .ensures) ∙ not-false _ (c .before .if1 .left)) in
-    sym (length-take-le _ _ (w .sample-room))
+slice-aggregate-is-agreed c = sym (length-take-le _ _ (checked (c .before) .sample-room))
 
 slice-relend-prefix-is-agreed-2 : tie.Need-slice-relend-prefix-is-agreed-2
-slice-relend-prefix-is-agreed-2 c = (it-fits _ _ _ _ (sym (c .before .before .is-fitting .ensures) ∙ not-false _ (c .before .if1 .left))) .cut-room
+slice-relend-prefix-is-agreed-2 c = checked (c .before) .cut-room
 
 slice-aggregate-is-agreed-2 : tie.Need-slice-aggregate-is-agreed-2
-slice-aggregate-is-agreed-2 c =
-    let w = it-fits _ _ _ _ (sym (c .before .before .before .is-fitting .ensures) ∙ not-false _ (c .before .before .if1 .left)) in
-    sym (length-take-le _ _ (w .cut-room))
+slice-aggregate-is-agreed-2 c = sym (length-take-le _ _ (checked (c .before .before) .cut-room))
 
 is-agreed-requires : tie.Need-is-agreed-requires
 is-agreed-requires c κs =
-    let w = it-fits _ _ _ _ (sym (c .before .before .before .is-fitting .ensures) ∙ not-false _ (c .before .before .if1 .left)) in
+    let w = checked (c .before .before) in
     (w .whole, length-take-le _ _ (w .sample-room), length-take-le _ _ (w .cut-room))
 
 same-length : tie.Need-same-length
@@ -45,9 +49,11 @@ same-length-2 c = search needs
 
 returns-2 : tie.Need-returns-2
 returns-2 c =
-    let f = c .before .before .before .before .before .before .before in
-    file-decides _ _ _ _ _ (f .before .filed-of .ensures .0) (f .is-fitting .ensures)
-    (not-false _ (c .before .before .before .before .before .before .if1 .left)) (c .before .before .before .is-agreed .ensures)
+    let at-agreed = c .before .before .before in
+    let at-if1 = at-agreed .before .before .before in
+    let at-fitting = at-if1 .before in
+    file-decides _ _ _ _ _ (at-fitting .before .filed-of .ensures .0) (at-fitting .is-fitting .ensures)
+    (not-false _ (at-if1 .if1 .left)) (at-agreed .is-agreed .ensures)
 
 pub agrees-spec : {M : Type 1} → statement M
 agrees-spec =

@@ -30,8 +30,11 @@ same-length-2 c = search needs
 
 returns : tie.Need-returns
 returns c =
-    let r = c .before .before .before .before .before .before .read-again .ensures in
-    first-fails (agreement-is _ _ _ _) (c .before .is-same-read .ensures ∙ ap₂ sameRead (r .0) (c .before .before .stated-read .ensures)) (not-true _ (c .if1 .taken))
+    let at-same = c .before in
+    let at-stated = at-same .before in
+    let r = at-stated .before .before .before .before .read-again .ensures in
+    first-fails (agreement-is _ _ _ _)
+    (at-same .is-same-read .ensures ∙ ap₂ sameRead (r .0) (at-stated .stated-read .ensures)) (not-true _ (c .if1 .taken))
 
 same-samples-requires : tie.Need-same-samples-requires
 same-samples-requires c κs = search needs
@@ -44,9 +47,17 @@ same-length-4 c = search needs
 
 returns-2 : tie.Need-returns-2
 returns-2 c =
-    let r = c .before .before .before .before .before .before .before .before .before .read-again .ensures in
-    second-fails (agreement-is _ _ _ _) (c .before .before .before .before .is-same-read .ensures ∙ ap₂ sameRead (r .0) (c .before .before .before .before .before .stated-read .ensures)) (not-false _ (c .before .before .before .if1 .left))
-    (samples-are _ _ _ _ (c .before .same-samples .ensures) (r .1 .0) (omega (arith, c .before .before .before .before .before .before .before .before .samples .given)))
+    let at-samples = c .before in
+    let at-if1 = at-samples .before .before in
+    let at-same = at-if1 .before in
+    let at-stated = at-same .before in
+    let at-known = at-stated .before .before .before in
+    let at-read = at-known .before in
+    let at-start = at-read .before .before .before .before .before in
+    let r = at-read .read-again .ensures in
+    second-fails (agreement-is _ _ _ _)
+    (at-same .is-same-read .ensures ∙ ap₂ sameRead (r .0) (at-stated .stated-read .ensures)) (not-false _ (at-if1 .if1 .left))
+    (samples-are _ _ _ _ (at-samples .same-samples .ensures) (r .1 .0) (omega (arith, at-known .samples .given, at-start .pre)))
     (not-true _ (c .if2 .taken))
 
 has-cuts-requires : tie.Need-has-cuts-requires
@@ -60,12 +71,21 @@ same-length-6 c = search needs
 
 returns-3 : tie.Need-returns-3
 returns-3 c =
-    let r = c .before .before .before .before .before .before .before .before .before .before .before .read-again .ensures in
-    let a = c .before .before .before .before .before .before .before .before .before .before .before .before .before .before .before .before .args in
-    let cuts = ap (λ (l : List ℕ). same l (take (a .f .cuts) (drop (a .f .file + 2 * a .f .samples) (a .body .now)))) (r .1 .1) in
-    all-three (agreement-is _ _ _ _) (c .before .before .before .before .before .before .is-same-read .ensures ∙ ap₂ sameRead (r .0) (c .before .before .before .before .before .before .before .stated-read .ensures)) (not-false _ (c .before .before .before .before .before .if1 .left))
-    (samples-are _ _ _ _ (c .before .before .before .same-samples .ensures) (r .1 .0) (omega (arith, c .before .before .before .before .before .before .before .before .before .before .samples .given)))
-    (not-false _ (c .before .before .if2 .left)) (c .has-cuts .ensures ∙ cuts)
+    let at-if2 = c .before .before in
+    let at-samples = at-if2 .before in
+    let at-if1 = at-samples .before .before in
+    let at-same = at-if1 .before in
+    let at-stated = at-same .before in
+    let at-known = at-stated .before .before .before in
+    let at-read = at-known .before in
+    let at-start = at-read .before .before .before .before .before in
+    let given = at-start .args in
+    let r = at-read .read-again .ensures in
+    let stated = take (given .f .cuts) (drop (given .f .file + 2 * given .f .samples) (given .body .now)) in
+    all-three (agreement-is _ _ _ _)
+    (at-same .is-same-read .ensures ∙ ap₂ sameRead (r .0) (at-stated .stated-read .ensures)) (not-false _ (at-if1 .if1 .left))
+    (samples-are _ _ _ _ (at-samples .same-samples .ensures) (r .1 .0) (omega (arith, at-known .samples .given, at-start .pre)))
+    (not-false _ (at-if2 .if2 .left)) (c .has-cuts .ensures ∙ ap (λ (l : List ℕ). same l stated) (r .1 .1))
 
 pub is-agreed-spec : {M : Type 1} → statement M
 is-agreed-spec =

@@ -27,9 +27,12 @@ same-length-2 c = search needs
 
 returns : tie.Need-returns
 returns c =
-    let a = c .before .before .before .before .before .before .before .before .before .before .before .before .before .before in
-    let f = c .before .before .before .read .ensures in
-    let q = reread-is (a .args .head .now) (a .args .body .now) (a .args .f) (a .args .samples .now) (c .before .before .before .before .before .before .before .before .before .lend-bytes .ensures) (a .pre .1) in (
+    let at-read = c .before .before .before in
+    let at-lend = at-read .before .before .before .before .before .before in
+    let at-start = at-lend .before .before .before .before .before in
+    let given = at-start .args in
+    let f = at-read .read .ensures in
+    let q = reread-is (given .head .now) (given .body .now) (given .f) (given .samples .now) (at-lend .lend-bytes .ensures) (at-start .pre .1) in (
       f .0 ∙ ap (λ (o : Outcome). o .answer) q,
       (f .1 .0 ∙ ap (λ (o : Outcome). o .samples) q, f .1 .1 ∙ ap (λ (o : Outcome). o .cuts) q),
     )

@@ -48,10 +48,14 @@ is-same-sample-requires c κs = tt
 
 returns : tie.Need-returns Inv-loop μ-loop
 returns c =
-    let at = c .before .before .before .before .before .before in
-    samples-differ _ _ _ (at .loop .i) (omega arith) (c .before .is-same-sample .ensures)
-    (toZ-ofZ w16 _ (record { sfits = c .before .before .is-same-sample-arg .given }))
-    (toZ-ofZ w16 _ (record { sfits = c .before .before .before .signed .ok }) ∙ c .before .before .before .signed .ensures ∙ ap signed (c .before .before .before .before .two-at .ensures .0)) (not-true _ (c .if1 .taken))
+    let at-sample = c .before in
+    let at-signed = at-sample .before .before in
+    let at-two = at-signed .before in
+    let at = at-two .before .before in
+    samples-differ _ _ _ (at .loop .i) (omega arith) (at-sample .is-same-sample .ensures)
+    (toZ-ofZ w16 _ (record { sfits = at-sample .before .is-same-sample-arg .given }))
+    (toZ-ofZ w16 _ (record { sfits = at-signed .signed .ok }) ∙ at-signed .signed .ensures ∙ ap signed (at-two .two-at .ensures .0))
+    (not-true _ (c .if1 .taken))
     ∙ at .loop .inv .2
 
 add-i : tie.Need-add-i Inv-loop μ-loop
@@ -62,12 +66,16 @@ loop-less c = omega arith
 
 loop-again : tie.Need-loop-again Inv-loop μ-loop
 loop-again c =
-    let at = c .before .before .before .before .before .before in (
+    let at-sample = c .before in
+    let at-signed = at-sample .before .before in
+    let at-two = at-signed .before in
+    let at = at-two .before .before in (
       omega arith,
       at .loop .inv .1,
-      samples-next _ _ _ (at .loop .i) (omega arith) (c .before .is-same-sample .ensures)
-          (toZ-ofZ w16 _ (record { sfits = c .before .before .is-same-sample-arg .given }))
-          (toZ-ofZ w16 _ (record { sfits = c .before .before .before .signed .ok }) ∙ c .before .before .before .signed .ensures ∙ ap signed (c .before .before .before .before .two-at .ensures .0)) (not-false _ (c .if1 .left))
+      samples-next _ _ _ (at .loop .i) (omega arith) (at-sample .is-same-sample .ensures)
+          (toZ-ofZ w16 _ (record { sfits = at-sample .before .is-same-sample-arg .given }))
+          (toZ-ofZ w16 _ (record { sfits = at-signed .signed .ok }) ∙ at-signed .signed .ensures ∙ ap signed (at-two .two-at .ensures .0))
+          (not-false _ (c .if1 .left))
           ∙ at .loop .inv .2,
     )
 

@@ -1,7 +1,7 @@
 -- Each way out by the tests that led there. Assumes nothing.
 use Prim.Native.Nat.{ℕ}
 use native.Mathlib.Omega.{arith}
-use mathlib.Core.Path.{sym, ap, _∙_}
+use mathlib.Core.Path.{_≡_, sym, ap, _∙_}
 use lib.ListN.{take, drop}
 use lib.Seq.{length-take-le}
 use borrow.Author.Tests.{not-true, not-false}
@@ -12,6 +12,24 @@ use Rattle.replay.proofs.Composed.{part-is, tables-are}
 use borrow.Author.Needs.{needs}
 use Rattle.replay.proofs.fills.are_stated.Statement.{statement}
 use Rattle.replay.proofs.fills.are_stated.Tie as tie
+
+-- the code takes the state bytes by their two ends, and as many ids as the part of the table that it lends has
+state-is : (at-bytes : tie.After-same-bytes)
+    → let given = at-bytes .before .before .before .before .before .before .before .before .args in
+    at-bytes .same-bytes .result ≡ same (given .state .now) (take (given .l .state) (drop (stateAt (given .l)) (given .body .now)))
+state-is at-bytes =
+    let given = at-bytes .before .before .before .before .before .before .before .before .args in
+    at-bytes .same-bytes .ensures ∙ ap (same _) (part-is (given .body .now) (stateAt (given .l)) (given .l .state))
+
+ids-are : (at-ids : tie.After-same-ids)
+    → let given = at-ids .before .before .before .before .before .before .before .before .before .before .before .args in
+    at-ids .same-ids .result ≡ same (take (given .l .ids) (given .rows .now)) (idsFrom (given .body .now) (idsAt (given .l)) (given .l .ids))
+ids-are at-ids =
+    let at-start = at-ids .before .before .before .before .before .before .before .before .before .before .before in
+    let l = at-start .args .l in
+    let rows = at-start .args .rows .now in
+    at-ids .same-ids .ensures
+    ∙ ap (λ (n : ℕ). same (take (l .ids) rows) (idsFrom (at-start .args .body .now) (idsAt l) n)) (length-take-le (l .ids) rows (at-start .pre .1))
 
 mul-first : tie.Need-mul-first
 mul-first c = search needs
@@ -38,9 +56,7 @@ same-bytes-requires : tie.Need-same-bytes-requires
 same-bytes-requires c κs = search needs
 
 returns : tie.Need-returns
-returns c =
-    let a = c .before .before .before .before .before .before .before .before .before in
-    first-fails (tables-are _ _ _ _ _) (c .before .same-bytes .ensures ∙ ap (same _) (part-is (a .args .body .now) (stateAt (a .args .l)) (a .args .l .state))) (not-true _ (c .if1 .taken))
+returns c = first-fails (tables-are _ _ _ _ _) (state-is (c .before)) (not-true _ (c .if1 .taken))
 
 slice-aggregate-same-ids : tie.Need-slice-aggregate-same-ids
 slice-aggregate-same-ids c = sym (length-take-le _ _ (c .before .before .before .before .before .before .before .before .before .before .pre .1))
@@ -52,12 +68,9 @@ same-ids-requires c κs =
 
 returns-2 : tie.Need-returns-2
 returns-2 c =
-    let a = c .before .before .before .before .before .before .before .before .before .before .before .before in
-    let ids = ap (λ (n : ℕ). same (take (a .args .l .ids) (a .args .rows .now)) (idsFrom (a .args .body .now) (idsAt (a .args .l)) n))
-    (length-take-le (a .args .l .ids) (a .args .rows .now) (a .pre .1))
-    in
-    second-fails (tables-are _ _ _ _ _) (c .before .before .before .before .same-bytes .ensures ∙ ap (same _) (part-is (a .args .body .now) (stateAt (a .args .l)) (a .args .l .state)))
-    (not-false _ (c .before .before .before .if1 .left)) (c .before .same-ids .ensures ∙ ids) (not-true _ (c .if2 .taken))
+    let at-if1 = c .before .before .before in
+    second-fails (tables-are _ _ _ _ _) (state-is (at-if1 .before)) (not-false _ (at-if1 .if1 .left))
+    (ids-are (c .before)) (not-true _ (c .if2 .taken))
 
 four-at-requires : tie.Need-four-at-requires
 four-at-requires c κs = search needs
@@ -70,14 +83,13 @@ is-untouched-requires c κs = search needs
 
 returns-3 : tie.Need-returns-3
 returns-3 c =
-    let a = c .before .before .before .before .before .before .before .before .before .before .before .before .before .before .before in
-    let ids = ap (λ (n : ℕ). same (take (a .args .l .ids) (a .args .rows .now)) (idsFrom (a .args .body .now) (idsAt (a .args .l)) n))
-    (length-take-le (a .args .l .ids) (a .args .rows .now) (a .pre .1))
-    in
-    let lent = ap (λ (n : ℕ). untouched n (drop (a .args .l .ids) (a .args .rows .now))) (c .before .four-at .ensures .0) in
-    all-three (tables-are _ _ _ _ _) (c .before .before .before .before .before .before .before .same-bytes .ensures ∙ ap (same _) (part-is (a .args .body .now) (stateAt (a .args .l)) (a .args .l .state)))
-    (not-false _ (c .before .before .before .before .before .before .if1 .left)) (c .before .before .before .before .same-ids .ensures ∙ ids)
-    (not-false _ (c .before .before .before .if2 .left)) (c .is-untouched .ensures ∙ lent)
+    let at-if2 = c .before .before .before in
+    let at-ids = at-if2 .before in
+    let at-if1 = at-ids .before .before in
+    let given = at-if1 .before .before .before .before .before .before .before .before .before .args in
+    all-three (tables-are _ _ _ _ _) (state-is (at-if1 .before)) (not-false _ (at-if1 .if1 .left))
+    (ids-are at-ids) (not-false _ (at-if2 .if2 .left))
+    (c .is-untouched .ensures ∙ ap (λ (n : ℕ). untouched n (drop (given .l .ids) (given .rows .now))) (c .before .four-at .ensures .0))
 
 pub are-stated-spec : {M : Type 1} → statement M
 are-stated-spec =

@@ -27,8 +27,10 @@ same-length-3 c = search needs
 
 returns : tie.Need-returns
 returns c =
-    answer-differs _ _ _ (c .before .is-same-answer .ensures ∙ ap₂ sameAnswer (c .before .before .before .before .before .before .before .before .replay .ensures .0) (c .before .before .answer-of .ensures))
-    (not-true _ (c .if1 .taken))
+    let at-same = c .before in
+    let at-answer = at-same .before in
+    let r = at-answer .before .before .before .before .before .before .replay .ensures in
+    answer-differs _ _ _ (at-same .is-same-answer .ensures ∙ ap₂ sameAnswer (r .0) (at-answer .answer-of .ensures)) (not-true _ (c .if1 .taken))
 
 are-stated-requires : tie.Need-are-stated-requires
 are-stated-requires c κs = search needs
@@ -44,10 +46,12 @@ same-length-6 c = search needs
 
 returns-2 : tie.Need-returns-2
 returns-2 c =
-    let r = c .before .before .before .before .before .before .before .before .before .before .before .replay .ensures in
-    tables-decide _ _ _
-    (c .before .before .before .before .is-same-answer .ensures ∙ ap₂ sameAnswer (r .0) (c .before .before .before .before .before .answer-of .ensures))
-    (not-false _ (c .before .before .before .if1 .left)) (c .are-stated .ensures ∙ ap₂ (statedTables _ _ _) (r .1 .0) (r .1 .1))
+    let at-if1 = c .before .before .before in
+    let at-same = at-if1 .before in
+    let at-answer = at-same .before in
+    let r = at-answer .before .before .before .before .before .before .replay .ensures in
+    tables-decide _ _ _ (at-same .is-same-answer .ensures ∙ ap₂ sameAnswer (r .0) (at-answer .answer-of .ensures))
+    (not-false _ (at-if1 .if1 .left)) (c .are-stated .ensures ∙ ap₂ (statedTables _ _ _) (r .1 .0) (r .1 .1))
 
 pub is-agreed-spec : {M : Type 1} → statement M
 is-agreed-spec =

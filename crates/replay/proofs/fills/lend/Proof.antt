@@ -38,11 +38,16 @@ same-length-3 c = search needs
 
 returns : tie.Need-returns
 returns c =
-    let a = c .before .before .before .before .before .before .before .before .before .before .before .before .before .before .before .before .before in (
-      written (a .args .body .now) (a .args .l .samples) (a .args .samples .now) (a .pre .1 .0) (c .before .before .before .before .before .before .before .before .before .before .before .before .write-samples .ensures),
+    let at-rows = c .before .before in
+    let at-state = at-rows .before .before .before .before .before .before in
+    let at-samples = at-state .before .before .before .before in
+    let at-start = at-samples .before .before .before .before .before in
+    let given = at-start .args in (
+      written (given .body .now) (given .l .samples) (given .samples .now) (at-start .pre .1 .0) (at-samples .write-samples .ensures),
       (
-        c .before .before .before .before .before .before .before .before .lend-bytes .ensures ∙ ap (λ (k : ℕ). replicate k (byteAt (a .args .head .now) 28)) (a .pre .1 .1),
-        c .before .before .lend-numbers .ensures ∙ ap₂ {C = List ℕ} (λ k n. replicate k n) (a .pre .1 .2) (c .before .before .before .four-at .ensures .0),
+        at-state .lend-bytes .ensures ∙ ap (λ (k : ℕ). replicate k (byteAt (given .head .now) 28)) (at-start .pre .1 .1),
+        at-rows .lend-numbers .ensures
+            ∙ ap₂ {C = List ℕ} (λ k n. replicate k n) (at-start .pre .1 .2) (at-rows .before .four-at .ensures .0),
       ),
     )
 

@@ -54,12 +54,16 @@ same-length-2 c = search needs
 
 returns : tie.Need-returns
 returns c =
-    let a = c .before .before .before .before .before .before .before .before .before .before .before .before .before .before .before .before .before .before .before .args in
-    let f = c .before .before .before .before .yakuemi-fill .ensures in
-    let b = block-is (a .body .now) (a .l) {samples = a .samples .now} (c .before .before .before .before .before .before .before .before .before .before .before .before .wide .ensures)
-    (c .before .before .before .before .before .before .before .before .before .before .wide2 .ensures) (c .before .before .before .before .before .before .before .before .wide3 .ensures)
+    let at-fill = c .before .before .before .before in
+    let at-z = at-fill .before .before .before .before in
+    let at-y = at-z .before .before in
+    let at-x = at-y .before .before in
+    let given = at-x .before .before .before .before .before .before .before .args in
+    let f = at-fill .yakuemi-fill .ensures in
+    let b = block-is (given .body .now) (given .l) {samples = given .samples .now}
+    (at-x .wide .ensures) (at-y .wide2 .ensures) (at-z .wide3 .ensures)
     in
-    let o : Block → Outcome = λ k. fill k (a .state .now) (a .rows .now) in (
+    let o : Block → Outcome = λ k. fill k (given .state .now) (given .rows .now) in (
       f .0 ∙ ap (λ (k : Block). o k .answer) b,
       (f .1 .0 ∙ ap (λ (k : Block). o k .state) b, f .1 .1 .0 ∙ ap (λ (k : Block). o k .rows) b),
     )

@@ -23,9 +23,12 @@ same-length-3 c = search needs
 
 returns : tie.Need-returns
 returns c =
-    let t = c .before .before .before .before .before .before .before .before .before .before .before .before .before .lend .ensures in
-    let f = c .before .before .before .before .refill .ensures in
-    let q = replay-is (c .before .before .before .before .before .before .before .before .before .before .before .before .before .before .before .before .before .before .before .before .args .head .now) _ _ (t .0) (t .1 .0) (t .1 .1) in (
+    let at-refill = c .before .before .before .before in
+    let at-lend = at-refill .before .before .before .before .before .before .before .before .before in
+    let given = at-lend .before .before .before .before .before .before .before .args in
+    let f = at-refill .refill .ensures in
+    let t = at-lend .lend .ensures in
+    let q = replay-is (given .head .now) _ _ (t .0) (t .1 .0) (t .1 .1) in (
       f .0 ∙ ap (λ (o : Outcome). o .answer) q,
       (f .1 .0 ∙ ap (λ (o : Outcome). o .state) q, f .1 .1 ∙ ap (λ (o : Outcome). o .rows) q),
     )

@@ -39,9 +39,14 @@ is-same-place-requires c κs = search needs
 
 returns : tie.Need-returns
 returns c =
-    answer-is _ _ _ _ _ (c .before .before .before .before .before .before .before .wide .ensures) (c .before .before .before .before .before .wide2 .ensures) (c .before .before .before .wide3 .ensures)
-    (c .before .before .before .before .before .before .before .before .before .four-at .ensures .0) (c .before .before .yakuemi-place .ensures) (c .before .stated-place .ensures)
-    (c .is-same-place .ensures)
+    let at-stated = c .before in
+    let at-place = at-stated .before in
+    let at-z = at-place .before in
+    let at-y = at-z .before .before in
+    let at-x = at-y .before .before in
+    let at-id = at-x .before .before in
+    answer-is _ _ _ _ _ (at-x .wide .ensures) (at-y .wide2 .ensures) (at-z .wide3 .ensures) (at-id .four-at .ensures .0)
+    (at-place .yakuemi-place .ensures) (at-stated .stated-place .ensures) (c .is-same-place .ensures)
 
 pub is-answered-spec : {M : Type 1} → statement M
 is-answered-spec =

@@ -50,8 +50,11 @@ loop-less c = omega arith
 
 loop-again : tie.Need-loop-again Inv-loop μ-loop
 loop-again c =
-    let at = c .before .before .before .before in
-    (omega arith, at .loop .inv .1, ids-next _ _ _ (at .loop .i) (omega arith) (c .before .before .two-at .ensures .0) (c .if1 .left) ∙ at .loop .inv .2)
+    let at = c .before .before .before .before in (
+      omega arith,
+      at .loop .inv .1,
+      ids-next _ _ _ (at .loop .i) (omega arith) (c .before .before .two-at .ensures .0) (c .if1 .left) ∙ at .loop .inv .2,
+    )
 
 returns-2 : tie.Need-returns-2 Inv-loop μ-loop
 returns-2 c =
