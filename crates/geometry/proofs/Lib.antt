@@ -1,3 +1,3 @@
-pub mod Places
+pub mod APlace
 pub mod Determinant
 pub mod FromEnd

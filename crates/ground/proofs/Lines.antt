@@ -1,17 +1,14 @@
 -- The points of a line, and the next line. Assumes nothing.
 use Prim.Native.Nat.{ℕ, _+_, _*_, _-_, _≤_, _<_}
 use native.Mathlib.Omega.{arith}
-use mathlib.Core.Path.{_≡_, refl, sym, ap, subst, _∙_}
-use mathlib.Core.List.{List}
-use lib.IntN.{ℤ}
-use lib.ListN.{length}
+use mathlib.Core.Path.{_≡_, sym, ap, subst, _∙_}
 use Rattle.lattice.specs.declared.Sizes.{Sizes}
 use Rattle.lattice.specs.declared.Kind.{Kind}
 use Rattle.lattice.specs.declared.Kind.the-variants.{Corner, Centre}
 use Rattle.lattice.specs.declared.Site.{Site}
-use Rattle.lattice.specs.Axis.{Axis, along-x, along-y, along-z, xyz}
+use Rattle.lattice.specs.Axis.{along-x, along-y, along-z, xyz}
 use Rattle.lattice.specs.Counts.{Sized, grid, points}
-use Rattle.lattice.specs.Point.{other, Inside, linear, number, kindOf, indexOf}
+use Rattle.lattice.specs.Point.{other, Inside, linear, number, indexOf}
 use Rattle.lattice.specs.inner.Site.{oddOf, index, siteAt, siteOf, Sited}
 use Rattle.lattice.proofs.Number.{number-lt, index-number}
 use Rattle.lattice.proofs.Sites.{own-grid, site-is}
@@ -60,15 +57,25 @@ module _ {s : Sizes} {p : ℕ} {q : Site} (l : Line s p q) where
       inside along-z = g .z-in
 
   module _ (h : Sized s) where
+    -- the last point of the line
+    abbrev end : Site
+    end = lineAt q (grid s (q .kind) along-x - 1)
+
+    long : 0 < grid s (q .kind) along-x
+    long = some s h (q .kind)
+
+    whole : grid s (q .kind) along-x ≤ grid s (q .kind) along-x - 1 + 1
+    whole = omega (arith, long)
+
+    end-at : Stands s (p + (grid s (q .kind) along-x - 1)) end
+    end-at = line-at (grid s (q .kind) along-x - 1) (omega (arith, long))
+
     pub line-fits : p + grid s (q .kind) along-x ≤ points s
-    line-fits = let w = line-at (grid s (q .kind) along-x - 1) (omega (arith, some s h (q .kind))) in omega (arith, w .below, some s h (q .kind))
+    line-fits = omega (arith, end-at .below, long)
 
-    -- the last point of the line, and the number after it
-    last : Sited s (lineAt q (grid s (q .kind) along-x - 1))
-    last = sited (line-at (grid s (q .kind) along-x - 1) (omega (arith, some s h (q .kind))))
-
+    -- the number after it
     after : q .own + (grid s (q .kind) along-x - 1) + 1 ≡ p + grid s (q .kind) along-x
-    after = omega (arith, line-own, some s h (q .kind))
+    after = omega (arith, line-own, long)
 
     made : {r : Site} (k : Kind) (y z : ℕ) → p + grid s (q .kind) along-x < points s → r ≡ siteAt s k (xyz 0 y z)
         → siteAt s k (xyz 0 y z) ≡ siteOf s (q .own + (grid s (q .kind) along-x - 1) + 1) → Line s (p + grid s (q .kind) along-x) r
@@ -77,23 +84,24 @@ module _ {s : Sizes} {p : ℕ} {q : Site} (l : Line s p q) where
         record { is = e ∙ f ∙ ap (siteOf s) after; first = ap (λ (t : Site). t .x) e; below = b }
 
     module _ (odd : ℕ) (o : odd ≡ oddOf (q .kind)) (b : p + grid s (q .kind) along-x < points s) where
-      pub line-y : {r : Site} → q .y + 1 < s .ny + 1 - odd → r ≡ siteAt s (q .kind) (xyz 0 (q .y + 1) (q .z)) → Line s (p + grid s (q .kind) along-x) r
+      pub line-y : {r : Site} → q .y + 1 < s .ny + 1 - odd → r ≡ siteAt s (q .kind) (xyz 0 (q .y + 1) (q .z))
+          → Line s (p + grid s (q .kind) along-x) r
       line-y i e =
           made (q .kind) (q .y + 1) (q .z) b e
-          (next-y s (lineAt q (grid s (q .kind) along-x - 1)) last (omega (arith, some s h (q .kind))) (omega (arith, own-grid (q .kind) (s .ny) odd o)))
+          (next-y s end (sited end-at) whole (omega (arith, own-grid (q .kind) (s .ny) odd o)))
 
       pub line-z : {r : Site} → s .ny + 1 - odd ≤ q .y + 1 → q .z + 1 < s .nz + 1 - odd → r ≡ siteAt s (q .kind) (xyz 0 0 (q .z + 1))
           → Line s (p + grid s (q .kind) along-x) r
       line-z i j e =
           made (q .kind) 0 (q .z + 1) b e
-          (next-z s (lineAt q (grid s (q .kind) along-x - 1)) last (omega (arith, some s h (q .kind))) (omega (arith, own-grid (q .kind) (s .ny) odd o))
+          (next-z s end (sited end-at) whole (omega (arith, own-grid (q .kind) (s .ny) odd o))
           (omega (arith, own-grid (q .kind) (s .nz) odd o)))
 
       pub line-centres : {r : Site} → s .ny + 1 - odd ≤ q .y + 1 → s .nz + 1 - odd ≤ q .z + 1 → r ≡ siteAt s Centre (xyz 0 0 0)
           → Line s (p + grid s (q .kind) along-x) r
       line-centres i j e =
           made Centre 0 0 b e
-          (next-kind s (lineAt q (grid s (q .kind) along-x - 1)) last h (omega (arith, some s h (q .kind))) (omega (arith, own-grid (q .kind) (s .ny) odd o))
+          (next-kind s end (sited end-at) h whole (omega (arith, own-grid (q .kind) (s .ny) odd o))
           (omega (arith, own-grid (q .kind) (s .nz) odd o)) (omega (arith, after)))
 
 -- a line by its own number, and the line after it as the code counts on

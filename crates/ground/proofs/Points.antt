@@ -8,9 +8,8 @@ use Rattle.lattice.specs.declared.Kind.{Kind}
 use Rattle.lattice.specs.declared.Kind.the-variants.{Corner, Centre}
 use Rattle.lattice.specs.declared.Site.{Site}
 use Rattle.lattice.specs.Axis.{Axis, along-x, along-y, along-z, xyz}
-use Rattle.lattice.specs.Counts.{Sized, grid, cells, corners, points}
+use Rattle.lattice.specs.Counts.{Sized, grid, cells, points}
 use Rattle.lattice.specs.Point.{other, Inside, linear, number, kindOf, indexOf}
-use Rattle.lattice.specs.Edge.{near, neighbour}
 use Rattle.lattice.specs.Rim.{rimAt, rim}
 use Rattle.lattice.specs.inner.Site.{index, siteAt, siteOf, Sited}
 use Rattle.lattice.proofs.Number.{number-lt, kind-number, index-number, number-of, inside-of}
@@ -24,6 +23,13 @@ index-at s k i along-z = refl
 -- the site of a number is that of its point
 pub site-number : (s : Sizes) (k : Kind) (i : Axis → ℕ) → Inside s k i → siteOf s (number s k i) ≡ siteAt s k i
 site-number s k i h = λ t. siteAt s (kind-number s k i h t) (λ a. index-number s k i h a t)
+
+-- what is asked of the kind and the indices of a decoded point is what is asked of its number
+pub asked : {A : Type 0} (s : Sizes) (p : ℕ) {q : Site} → q ≡ siteOf s p → (f : Kind → (Axis → ℕ) → A)
+    → f (q .kind) (index q) ≡ f (kindOf s p) (indexOf s p)
+unfolding siteAt
+asked s p e f =
+    ap (λ (r : Site). f (r .kind) (index r)) e ∙ (λ t. f (kindOf s p) (λ a. index-at s (kindOf s p) (indexOf s p) a t))
 
 -- q is the decoded point p
 pub record Stands (s : Sizes) (p : ℕ) (q : Site) : Type 0 where
@@ -42,18 +48,8 @@ module _ {s : Sizes} {p : ℕ} {q : Site} (w : Stands s p q) where
   pub own-below : q .own < points s
   own-below = subst (λ (n : ℕ). n < points s) (sym own-at) (w .below)
 
-  -- what is asked of the site is what is asked of the number
-  pub near-at : (c : ℕ) → near s (q .kind) (index q) c ≡ neighbour s p c
-  unfolding siteAt
-  near-at c =
-      ap (λ (r : Site). near s (r .kind) (index r) c) (w .is)
-      ∙ (λ t. near s (kindOf s p) (λ a. index-at s (kindOf s p) (indexOf s p) a t) c)
-
   pub rim-at : rimAt s (q .kind) (index q) ≡ rim s p
-  unfolding siteAt
-  rim-at =
-      ap (λ (r : Site). rimAt s (r .kind) (index r)) (w .is)
-      ∙ (λ t. rimAt s (kindOf s p) (λ a. index-at s (kindOf s p) (indexOf s p) a t))
+  rim-at = asked s p (w .is) (rimAt s)
 
   pub sited : Sited s q
   unfolding siteAt linear

@@ -1,5 +1,5 @@
+pub mod ACube
 pub mod Limits
-pub mod OneCube
 pub mod Labels
 pub mod Settled
 pub mod Bytes

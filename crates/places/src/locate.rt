@@ -107,12 +107,12 @@ fn locate_cut(s: Sizes, cuts: &[u8], state: &[u8], o: usize) -> Placed
     let far = edges::neighbour(s, q, d + 1);
     match far {
         Near::At(n) => {
-            if state[n] != 0 {
-                return refused(8);
+            if state[n] == 0 {
+                let kind = q.kind;
+                let start = points::rest_place(kind, q.x, q.y, q.z);
+                return answered(points::cut_place(start, d, t));
             }
-            let kind = q.kind;
-            let start = points::rest_place(kind, q.x, q.y, q.z);
-            answered(points::cut_place(start, d, t))
+            refused(8)
         }
         Near::Nothing => refused(8),
     }

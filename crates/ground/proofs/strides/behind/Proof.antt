@@ -37,7 +37,9 @@ sub-low c =
     low-fits (a .args .s) (a .args .q) (a .pre .1) (c .before .before .before .enum-told .given .1)
 
 starts-back-requires : tie.Need-starts-back-requires
-starts-back-requires c κs = let a = c .before .before .before .before .before in omega (arith, numbers-small (a .args .s) (a .args .q) (a .pre .0) (a .pre .1))
+starts-back-requires c κs =
+    let a = c .before .before .before .before .before in
+    omega (arith, numbers-small (a .args .s) (a .args .q) (a .pre .0) (a .pre .1))
 
 enum-told-2 : tie.Need-enum-told-2
 enum-told-2 c = search needs
@@ -49,7 +51,9 @@ add-starts-back : tie.Need-add-starts-back
 add-starts-back c = search needs
 
 starts-back-requires-2 : tie.Need-starts-back-requires-2
-starts-back-requires-2 c κs = let a = c .before .before .before in omega (arith, numbers-small (a .args .s) (a .args .q) (a .pre .0) (a .pre .1))
+starts-back-requires-2 c κs =
+    let a = c .before .before .before in
+    omega (arith, numbers-small (a .args .s) (a .args .q) (a .pre .0) (a .pre .1))
 
 returns : tie.Need-returns
 unfolding startsAt

@@ -24,38 +24,49 @@ sub-t5 c =
 
 mul-t6 : tie.Need-mul-t6
 mul-t6 c =
-    let h = c .before .before .before .before .before .before .before .before .before .before .before .before .pre in
+    let at-x = c .before .before .before .before in
+    let h = at-x .before .before .before .before .before .before .before .before .pre in
     mul-fits (at (h .0) tt along-z) (at (h .1) tt along-x) tt
 
 mul-t7 : tie.Need-mul-t7
 mul-t7 c =
-    let h = c .before .before .before .before .before .before .before .before .before .before .before .before .before .before .before .before .pre in
+    let at-x = c .before .before .before .before .before .before .before .before in
+    let h = at-x .before .before .before .before .before .before .before .before .pre in
     mul-fits (at (h .0) tt along-x) (at (h .1) tt along-z) tt
 
 sub-t8 : tie.Need-sub-t8
 sub-t8 c =
-    let h = c .before .before .before .before .before .before .before .before .before .before .before .before .before .before .before .before .pre in
+    let at-x = c .before .before .before .before .before .before .before .before in
+    let h = at-x .before .before .before .before .before .before .before .before .pre in
     sub-fits (product (h .0) (h .1) along-z along-x) (product (h .0) (h .1) along-x along-z) tt
 
 mul-t9 : tie.Need-mul-t9
 mul-t9 c =
-    let h = c .before .before .before .before .before .before .before .before .before .before .before .before .before .before .before .before .before .before .before .before .pre in
+    let at-y = c .before .before .before .before in
+    let at-x = at-y .before .before .before .before .before .before .before .before in
+    let h = at-x .before .before .before .before .before .before .before .before .pre in
     mul-fits (at (h .0) tt along-x) (at (h .1) tt along-y) tt
 
 mul-t10 : tie.Need-mul-t10
 mul-t10 c =
-    let h = c .before .before .before .before .before .before .before .before .before .before .before .before .before .before .before .before .before .before .before .before .before .before .before .before .pre in
+    let at-y = c .before .before .before .before .before .before .before .before in
+    let at-x = at-y .before .before .before .before .before .before .before .before in
+    let h = at-x .before .before .before .before .before .before .before .before .pre in
     mul-fits (at (h .0) tt along-y) (at (h .1) tt along-x) tt
 
 sub-t11 : tie.Need-sub-t11
 sub-t11 c =
-    let h = c .before .before .before .before .before .before .before .before .before .before .before .before .before .before .before .before .before .before .before .before .before .before .before .before .pre in
+    let at-y = c .before .before .before .before .before .before .before .before in
+    let at-x = at-y .before .before .before .before .before .before .before .before in
+    let h = at-x .before .before .before .before .before .before .before .before .pre in
     sub-fits (product (h .0) (h .1) along-x along-y) (product (h .0) (h .1) along-y along-x) tt
 
 returns : tie.Need-returns
 unfolding cross
 returns c =
-    let s = c .before .before .before .before .before .before .before .before .before .before .before .before .before .before .before .before .before .before .before .before .before .before .before .before in
+    let at-y = c .before .before .before .before .before .before .before .before in
+    let at-x = at-y .before .before .before .before .before .before .before .before in
+    let s = at-x .before .before .before .before .before .before .before .before in
     let x = minor (s .pre .0) (s .pre .1) along-y along-z in
     let y = minor (s .pre .0) (s .pre .1) along-z along-x in
     let z = minor (s .pre .0) (s .pre .1) along-x along-y in

@@ -12,7 +12,8 @@ odd-of-requires c κs = search needs
 
 add-if1 : tie.Need-add-if1
 add-if1 c =
-    let g = sited (line-stands (c .before .before .pre .1 .0)) in omega (arith, site-small (c .before .before .args .s) (c .before .before .args .q) (c .before .before .pre .0) g)
+    let c2 = c .before .before in
+    let g = sited (line-stands (c2 .pre .1 .0)) in omega (arith, site-small (c2 .args .s) (c2 .args .q) (c2 .pre .0) g)
 
 add-if1-2 : tie.Need-add-if1-2
 add-if1-2 c = search needs

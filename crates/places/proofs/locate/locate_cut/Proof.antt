@@ -46,54 +46,79 @@ add-neighbour c = search needs
 
 neighbour-requires : tie.Need-neighbour-requires
 neighbour-requires c κs =
-    let a = c .before .before .before .before .before .before .before in
-    (a .pre .0, (siting (a .args .s) (a .args .o / 7) _ (c .locate .ensures) (omega arith) .0, start-code (a .args .o % 7) (omega arith)))
+    let at-start = c .before .before .before .before .before .before .before in
+    let o = at-start .args .o in
+    let site = siting (at-start .args .s) (o / 7) _ (c .locate .ensures) (omega arith) in
+    (at-start .pre .0, (site .0, start-code (o % 7) (omega arith)))
 
 enum-known-far : tie.Need-enum-known-far
 enum-known-far c = search needs
 
 shared-slice-read-if3 : tie.Need-shared-slice-read-if3
 shared-slice-read-if3 c =
-    let a = c .before .before .before .before .before .before .before .before .before .before .before .before in
-    let lo = c .before .before .before .before .before .locate .ensures in
-    let found = c .before .before .before .before .neighbour .ensures in
-    let to = site-leads (a .args .s) (a .args .o / 7) _ lo (a .args .o % 7 + 1) found (c .before .before .far .given .1) in
-    omega (arith, a .pre .1 .1 .0, neighbour-lt (a .args .s) (a .args .o / 7) (a .args .o % 7 + 1) _ (omega arith) (start-code (a .args .o % 7) (omega arith)) to)
-
-refused-requires-3 : tie.Need-refused-requires-3
-refused-requires-3 c κs = search needs
-
-returns-3 : tie.Need-returns-3
-returns-3 c =
-    let a = c .before .before .before .before .before .before .before .before .before .before .before .before .before .before in
-    let lo = c .before .before .before .before .before .before .before .locate .ensures in
-    let found = c .before .before .before .before .before .before .neighbour .ensures in
-    let to = site-leads (a .args .s) (a .args .o / 7) _ lo (a .args .o % 7 + 1) found (c .before .before .before .before .far .given .1) in
-    let byte = c .before .before .before .before .before .before .before .before .before .before .if1 .left in
-    let still = c .before .before .before .before .before .before .before .before .if2 .left in
-    c .refused3 .ensures ∙ cut-ends (a .args .s) (a .args .cuts .now) (a .args .state .now) (a .args .o) _ to byte still (c .before .if3 .taken)
+    let at-far = c .before .before in
+    let at-near = at-far .before .before in
+    let at-site = at-near .before in
+    let at-if2 = at-site .before in
+    let at-start = at-if2 .before .before .before .before .before .before in
+    let s = at-start .args .s in
+    let o = at-start .args .o in
+    let to = site-leads s (o / 7) _ (at-site .locate .ensures) (o % 7 + 1) (at-near .neighbour .ensures) (at-far .far .given .1) in
+    omega (arith, at-start .pre .1 .1 .0, neighbour-lt s (o / 7) (o % 7 + 1) _ (omega arith) (start-code (o % 7) (omega arith)) to)
 
 rest-place-requires : tie.Need-rest-place-requires
 rest-place-requires c κs =
-    let a = c .before .before .before .before .before .before .before .before .before .before .before .before .before in
-    site-le (a .args .s) (a .args .o / 7) _ (c .before .before .before .before .before .before .locate .ensures) (a .pre .0) (omega arith)
+    let at-site = c .before .before .before .before .before .before in
+    let at-start = at-site .before .before .before .before .before .before .before in
+    let a = at-start .args in
+    site-le (a .s) (a .o / 7) _ (at-site .locate .ensures) (at-start .pre .0) (omega arith)
 
 cut-place-requires : tie.Need-cut-place-requires
 cut-place-requires c κs = search needs
 
 answered-requires : tie.Need-answered-requires
 answered-requires c κs =
-    let a = c .before .before .before .before .before .before .before .before .before .before .before .before .before .before .before in
-    let lo = c .before .before .before .before .before .before .before .before .locate .ensures in
-    let found = c .before .before .before .before .before .before .before .neighbour .ensures in
-    let to = site-leads (a .args .s) (a .args .o / 7) _ lo (a .args .o % 7 + 1) found (c .before .before .before .before .before .far .given .1) in
-    let rests = c .before .rest-place .ensures .0 ∙ site-rest (a .args .s) (a .args .o / 7) _ lo in
-    let is = c .cut-place .ensures .0 ∙ ap (λ (f : Axis → ℤ). along f (direction (a .args .o % 7)) (getD (a .args .cuts .now) (a .args .o) 0)) rests in
-    let known = c .before .before .before .before .before .before .before .before .before .before .before .before .shared-slice-known3 .given in (
+    let at-rest = c .before in
+    let at-far = at-rest .before .before .before .before in
+    let at-near = at-far .before .before in
+    let at-site = at-near .before in
+    let at-if2 = at-site .before in
+    let at-byte = at-if2 .before .before .before in
+    let at-start = at-byte .before .before .before in
+    let a = at-start .args in
+    let o = a .o in
+    let site = at-site .locate .ensures in
+    let to = site-leads (a .s) (o / 7) _ site (o % 7 + 1) (at-near .neighbour .ensures) (at-far .far .given .1) in
+    let rests = at-rest .rest-place .ensures .0 ∙ site-rest (a .s) (o / 7) _ site in
+    let led = ap (λ (f : Axis → ℤ). along f (direction (o % 7)) (getD (a .cuts .now) o 0)) rests in
+    let is = c .cut-place .ensures .0 ∙ led ∙ sym (start-along _ (o % 7) _ (omega arith)) in (
       c .cut-place .ensures .1,
-      along-up (a .args .s) (a .args .o / 7) (a .args .o % 7 + 1) _ _ (omega arith) (start-code (a .args .o % 7) (omega arith)) to
-          (omega (arith, known (a .args .o))) _ (is ∙ sym (start-along _ (a .args .o % 7) _ (omega arith))),
+      along-up (a .s) (o / 7) (o % 7 + 1) _ _ (omega (arith, at-start .pre .1 .1 .1)) (start-code (o % 7) (omega arith)) to
+          (omega (arith, at-byte .shared-slice-known3 .given o)) _ is,
     )
+
+returns-3 : tie.Need-returns-3
+returns-3 c =
+    let at-cut = c .before in
+    let at-rest = at-cut .before in
+    let at-if3 = at-rest .before in
+    let at-far = at-if3 .before .before .before in
+    let at-near = at-far .before .before in
+    let at-site = at-near .before in
+    let at-if2 = at-site .before in
+    let at-if1 = at-if2 .before .before in
+    let a = at-if1 .before .before .before .before .args in
+    let o = a .o in
+    let site = at-site .locate .ensures in
+    let to = site-leads (a .s) (o / 7) _ site (o % 7 + 1) (at-near .neighbour .ensures) (at-far .far .given .1) in
+    let rests = at-rest .rest-place .ensures .0 ∙ site-rest (a .s) (o / 7) _ site in
+    let led = ap (λ (f : Axis → ℤ). along f (direction (o % 7)) (getD (a .cuts .now) o 0)) rests in
+    c .answered .ensures
+    ∙ cut-answer (a .s) (a .cuts .now) (a .state .now) o _ to (at-if1 .if1 .left) (at-if2 .if2 .left) (at-if3 .if3 .taken) _
+    (at-cut .cut-place .ensures .0 ∙ led)
+
+refused-requires-3 : tie.Need-refused-requires-3
+refused-requires-3 c κs = search needs
 
 enum-told : tie.Need-enum-told
 enum-told c = search needs
@@ -103,23 +128,28 @@ refused-requires-4 c κs = search needs
 
 returns-4 : tie.Need-returns-4
 returns-4 c =
-    let a = c .before .before .before .before .before .before .before .before .before .before .before .before .before .before .before .before in
-    let lo = c .before .before .before .before .before .before .before .before .before .locate .ensures in
-    let found = c .before .before .before .before .before .before .before .before .neighbour .ensures in
-    let to = site-leads (a .args .s) (a .args .o / 7) _ lo (a .args .o % 7 + 1) found (c .before .before .before .before .before .before .far .given .1) in
-    let rests = c .before .before .rest-place .ensures .0 ∙ site-rest (a .args .s) (a .args .o / 7) _ lo in
-    let is = c .before .cut-place .ensures .0 ∙ ap (λ (f : Axis → ℤ). along f (direction (a .args .o % 7)) (getD (a .args .cuts .now) (a .args .o) 0)) rests in
-    let byte = c .before .before .before .before .before .before .before .before .before .before .before .before .if1 .left in
-    let still = c .before .before .before .before .before .before .before .before .before .before .if2 .left in
-    c .answered .ensures ∙ cut-answer (a .args .s) (a .args .cuts .now) (a .args .state .now) (a .args .o) _ to byte still (c .before .before .before .if3 .left) _ is
+    let at-if3 = c .before in
+    let at-far = at-if3 .before .before .before in
+    let at-near = at-far .before .before in
+    let at-site = at-near .before in
+    let at-if2 = at-site .before in
+    let at-if1 = at-if2 .before .before in
+    let a = at-if1 .before .before .before .before .args in
+    let o = a .o in
+    let to = site-leads (a .s) (o / 7) _ (at-site .locate .ensures) (o % 7 + 1) (at-near .neighbour .ensures) (at-far .far .given .1) in
+    c .refused3 .ensures
+    ∙ cut-ends (a .s) (a .cuts .now) (a .state .now) o _ to (at-if1 .if1 .left) (at-if2 .if2 .left) (at-if3 .if3 .left)
 
 returns-5 : tie.Need-returns-5
 returns-5 c =
-    let a = c .before .before .before .before .before .before .before .before .before .before .before in
-    let lo = c .before .before .before .before .locate .ensures in
-    let found = c .before .before .before .neighbour .ensures in
-    let to = site-leads (a .args .s) (a .args .o / 7) _ lo (a .args .o % 7 + 1) found (c .before .enum-told .given .1) in
-    c .refused4 .ensures ∙ cut-none (a .args .s) (a .args .cuts .now) (a .args .state .now) (a .args .o) to
+    let at-far = c .before in
+    let at-near = at-far .before .before in
+    let at-site = at-near .before in
+    let at-if2 = at-site .before in
+    let a = at-if2 .before .before .before .before .before .before .args in
+    let o = a .o in
+    let to = site-leads (a .s) (o / 7) _ (at-site .locate .ensures) (o % 7 + 1) (at-near .neighbour .ensures) (at-far .enum-told .given .1) in
+    c .refused4 .ensures ∙ cut-none (a .s) (a .cuts .now) (a .state .now) o to
 
 pub locate-cut-spec : {M : Type 1} → statement M
 locate-cut-spec =
@@ -136,11 +166,11 @@ locate-cut-spec =
     neighbour-requires
     enum-known-far
     shared-slice-read-if3
-    refused-requires-3
-    returns-3
     rest-place-requires
     cut-place-requires
     answered-requires
+    returns-3
+    refused-requires-3
     enum-told
     refused-requires-4
     returns-4

@@ -19,9 +19,11 @@ refused-requires c κs = search needs
 
 returns : tie.Need-returns
 returns c =
-    let a = c .before .before .before .before .before in
-    c .refused .ensures
-    ∙ call-size (a .args .s) (a .args .cuts .now) (a .args .state .now) (a .args .id) (sym (c .before .before .sizes-fit .ensures) ∙ not-true _ (c .before .if1 .taken))
+    let at-if1 = c .before in
+    let at-sizes = at-if1 .before in
+    let a = at-sizes .before .before .before .args in
+    let f = sym (at-sizes .sizes-fit .ensures) ∙ not-true _ (at-if1 .if1 .taken) in
+    c .refused .ensures ∙ call-size (a .s) (a .cuts .now) (a .state .now) (a .id) f
 
 point-count-requires : tie.Need-point-count-requires
 point-count-requires c κs = fits-sized _ (sym (c .before .sizes-fit .ensures) ∙ not-false _ (c .if1 .left))
@@ -41,7 +43,8 @@ returns-2 c =
     let f = sym (c .before .before .before .before .sizes-fit .ensures) ∙ not-false _ t in
     let n = c .before .before .point-count .ensures in
     c .refused2 .ensures
-    ∙ call-cuts (a .args .s) (a .args .cuts .now) (a .args .state .now) (a .args .id) f (λ e. c .before .if2 .taken (e ∙ sym (ap (λ (m : ℕ). 7 * m) n)))
+    ∙ call-cuts (a .args .s) (a .args .cuts .now) (a .args .state .now) (a .args .id) f
+    (λ e. c .before .if2 .taken (e ∙ sym (ap (λ (m : ℕ). 7 * m) n)))
 
 refused-requires-3 : tie.Need-refused-requires-3
 refused-requires-3 c κs = search needs

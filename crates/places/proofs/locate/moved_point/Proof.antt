@@ -36,22 +36,30 @@ enum-known-far c = search needs
 
 edge-byte-requires : tie.Need-edge-byte-requires
 edge-byte-requires c κs =
-    let a = c .before .before .before .before .before .before .before in
-    let found = c .before .before .before .neighbour .ensures in
-    let lo = c .before .before .before .before .before .locate .ensures in
-    let to = site-leads (a .args .s) (a .args .p) _ lo (a .args .code) found (c .before .far .given .1) in
-    let n = points-small (a .args .s) (a .pre .0) in
-    ((omega arith, omega (arith, neighbour-lt (a .args .s) (a .args .p) (a .args .code) _ (a .pre .1 .1 .0) (a .pre .1 .1 .1) to)), a .pre .1 .1 .1)
+    let at-far = c .before in
+    let at-near = at-far .before .before in
+    let at-site = at-near .before .before in
+    let at-start = at-site .before .before in
+    let a = at-start .args in
+    let pre = at-start .pre in
+    let to = site-leads (a .s) (a .p) _ (at-site .locate .ensures) (a .code) (at-near .neighbour .ensures) (at-far .far .given .1) in
+    let n = points-small (a .s) (pre .0) in
+    let far = neighbour-lt (a .s) (a .p) (a .code) _ (pre .1 .1 .0) (pre .1 .1 .1) to in
+    ((omega arith, omega (arith, far)), pre .1 .1 .1)
 
 shared-slice-read-t : tie.Need-shared-slice-read-t
 shared-slice-read-t c =
-    let a = c .before .before .before .before .before .before .before .before .before in
-    let found = c .before .before .before .before .before .neighbour .ensures in
-    let lo = c .before .before .before .before .before .before .before .locate .ensures in
-    let to = site-leads (a .args .s) (a .args .p) _ lo (a .args .code) found (c .before .before .before .far .given .1) in
-    let far = neighbour-lt (a .args .s) (a .args .p) (a .args .code) _ (a .pre .1 .1 .0) (a .pre .1 .1 .1) to in
-    let byte = byte-lt (points (a .args .s)) (a .args .p) (a .args .code) _ (a .pre .1 .1 .1) (a .pre .1 .1 .0) far in
-    omega (arith, a .pre .1 .0, c .before .edge-byte .ensures)
+    let at-byte = c .before in
+    let at-far = at-byte .before .before in
+    let at-near = at-far .before .before in
+    let at-site = at-near .before .before in
+    let at-start = at-site .before .before in
+    let a = at-start .args in
+    let pre = at-start .pre in
+    let to = site-leads (a .s) (a .p) _ (at-site .locate .ensures) (a .code) (at-near .neighbour .ensures) (at-far .far .given .1) in
+    let far = neighbour-lt (a .s) (a .p) (a .code) _ (pre .1 .1 .0) (pre .1 .1 .1) to in
+    let byte = byte-lt (points (a .s)) (a .p) (a .code) _ (pre .1 .1 .1) (pre .1 .1 .0) far in
+    omega (arith, pre .1 .0, at-byte .edge-byte .ensures)
 
 violates-requires : tie.Need-violates-requires
 violates-requires c κs = search needs
@@ -61,31 +69,51 @@ moved-place-requires c κs = search needs
 
 answered-requires : tie.Need-answered-requires
 answered-requires c κs =
-    let a = c .before .before .before .before .before .before .before .before .before .before .before .before in
-    let lo = c .before .before .before .before .before .before .before .before .before .before .locate .ensures in
-    let found = c .before .before .before .before .before .before .before .before .neighbour .ensures in
-    let to = site-leads (a .args .s) (a .args .p) _ lo (a .args .code) found (c .before .before .before .before .before .before .far .given .1) in
-    let at = c .before .before .before .before .edge-byte in
-    let t = getD (a .args .cuts .now) (at .result) 0 in
-    let rests = c .before .before .before .before .before .before .before .before .before .rest-place .ensures .0 ∙ site-rest (a .args .s) (a .args .p) _ lo in
-    let is = c .moved-place .ensures .0 ∙ ap (λ (f : Axis → ℤ). along f (step (a .args .code)) (measured (a .args .code) t)) rests in
-    let small = measured-small (a .args .code) t (omega (arith, c .before .before .before .shared-slice-known2 .given (at .result))) in
-    (c .moved-place .ensures .1, along-up (a .args .s) (a .args .p) (a .args .code) _ _ (a .pre .1 .1 .0) (a .pre .1 .1 .1) to small _ is)
+    let at-cut = c .before .before .before in
+    let at-byte = at-cut .before in
+    let at-far = at-byte .before .before in
+    let at-near = at-far .before .before in
+    let at-rest = at-near .before in
+    let at-site = at-rest .before in
+    let at-start = at-site .before .before in
+    let a = at-start .args in
+    let pre = at-start .pre in
+    let site = at-site .locate .ensures in
+    let to = site-leads (a .s) (a .p) _ site (a .code) (at-near .neighbour .ensures) (at-far .far .given .1) in
+    let o = at-byte .edge-byte .result in
+    let t = getD (a .cuts .now) o 0 in
+    let rests = at-rest .rest-place .ensures .0 ∙ site-rest (a .s) (a .p) _ site in
+    let led = ap (λ (f : Axis → ℤ). along f (step (a .code)) (measured (a .code) t)) rests in
+    let small = measured-small (a .code) t (omega (arith, at-cut .shared-slice-known2 .given o)) in (
+      c .moved-place .ensures .1,
+      along-up (a .s) (a .p) (a .code) _ _ (pre .1 .1 .0) (pre .1 .1 .1) to small _ (c .moved-place .ensures .0 ∙ led),
+    )
 
 returns : tie.Need-returns
 returns c =
-    let a = c .before .before .before .before .before .before .before .before .before .before .before .before .before in
-    let lo = c .before .before .before .before .before .before .before .before .before .before .before .locate .ensures in
-    let found = c .before .before .before .before .before .before .before .before .before .neighbour .ensures in
-    let to = site-leads (a .args .s) (a .args .p) _ lo (a .args .code) found (c .before .before .before .before .before .before .before .far .given .1) in
-    let at = c .before .before .before .before .before .edge-byte in
-    let t = getD (a .args .cuts .now) (at .result) 0 in
-    let rests = c .before .before .before .before .before .before .before .before .before .before .rest-place .ensures .0 ∙ site-rest (a .args .s) (a .args .p) _ lo in
-    let is = c .before .moved-place .ensures .0 ∙ ap (λ (f : Axis → ℤ). along f (step (a .args .code)) (measured (a .args .code) t)) rests in
+    let at-moved = c .before in
+    let at-if = at-moved .before in
+    let at-test = at-if .before in
+    let at-cut = at-test .before in
+    let at-byte = at-cut .before in
+    let at-far = at-byte .before .before in
+    let at-near = at-far .before .before in
+    let at-rest = at-near .before in
+    let at-site = at-rest .before in
+    let at-start = at-site .before .before in
+    let a = at-start .args in
+    let pre = at-start .pre in
+    let site = at-site .locate .ensures in
+    let to = site-leads (a .s) (a .p) _ site (a .code) (at-near .neighbour .ensures) (at-far .far .given .1) in
+    let o = at-byte .edge-byte .result in
+    let t = getD (a .cuts .now) o 0 in
+    let rests = at-rest .rest-place .ensures .0 ∙ site-rest (a .s) (a .p) _ site in
+    let led = ap (λ (f : Axis → ℤ). along f (step (a .code)) (measured (a .code) t)) rests in
+    let byte = ap (λ (o : ℕ). getD (a .cuts .now) o 0) (at-byte .edge-byte .ensures) in
+    let test = sym (at-test .violates .ensures) ∙ at-if .if1 .taken in
     c .answered .ensures
-    ∙ moved-answer (a .args .s) (a .args .cuts .now) (a .args .p) (a .args .code) _ t to
-    (ap (λ (o : ℕ). getD (a .args .cuts .now) o 0) (at .ensures)) (a .pre .1 .1 .0) (a .pre .1 .1 .1) (omega (arith, c .before .before .before .before .shared-slice-known2 .given (at .result)))
-    (sym (c .before .before .before .violates .ensures) ∙ c .before .before .if1 .taken) _ is
+    ∙ moved-answer (a .s) (a .cuts .now) (a .p) (a .code) _ t to byte (pre .1 .1 .0) (pre .1 .1 .1)
+    (omega (arith, at-cut .shared-slice-known2 .given o)) test _ (at-moved .moved-place .ensures .0 ∙ led)
 
 refused-requires : tie.Need-refused-requires
 refused-requires c κs = search needs
@@ -98,23 +126,29 @@ refused-requires-2 c κs = search needs
 
 returns-2 : tie.Need-returns-2
 returns-2 c =
-    let a = c .before .before .before .before .before .before .before .before .before .before .before .before in
-    let lo = c .before .before .before .before .before .before .before .before .before .before .locate .ensures in
-    let found = c .before .before .before .before .before .before .before .before .neighbour .ensures in
-    let to = site-leads (a .args .s) (a .args .p) _ lo (a .args .code) found (c .before .before .before .before .before .before .far .given .1) in
-    let at = c .before .before .before .before .edge-byte in
-    let t = getD (a .args .cuts .now) (at .result) 0 in
+    let at-if = c .before in
+    let at-test = at-if .before in
+    let at-byte = at-test .before .before in
+    let at-far = at-byte .before .before in
+    let at-near = at-far .before .before in
+    let at-site = at-near .before .before in
+    let a = at-site .before .before .args in
+    let site = at-site .locate .ensures in
+    let to = site-leads (a .s) (a .p) _ site (a .code) (at-near .neighbour .ensures) (at-far .far .given .1) in
+    let t = getD (a .cuts .now) (at-byte .edge-byte .result) 0 in
+    let byte = ap (λ (o : ℕ). getD (a .cuts .now) o 0) (at-byte .edge-byte .ensures) in
     c .refused .ensures
-    ∙ moved-far (a .args .s) (a .args .cuts .now) (a .args .p) (a .args .code) _ t to
-    (ap (λ (o : ℕ). getD (a .args .cuts .now) o 0) (at .ensures))
-    (sym (c .before .before .violates .ensures) ∙ c .before .if1 .left)
+    ∙ moved-far (a .s) (a .cuts .now) (a .p) (a .code) _ t to byte (sym (at-test .violates .ensures) ∙ at-if .if1 .left)
 
 returns-3 : tie.Need-returns-3
 returns-3 c =
-    let a = c .before .before .before .before .before .before .before in
-    let lo = c .before .before .before .before .before .locate .ensures in
-    let to = site-leads (a .args .s) (a .args .p) _ lo (a .args .code) (c .before .before .before .neighbour .ensures) (c .before .enum-told .given .1) in
-    c .refused2 .ensures ∙ moved-none (a .args .s) (a .args .cuts .now) (a .args .p) (a .args .code) to
+    let at-far = c .before in
+    let at-near = at-far .before .before in
+    let at-site = at-near .before .before in
+    let a = at-site .before .before .args in
+    let site = at-site .locate .ensures in
+    let to = site-leads (a .s) (a .p) _ site (a .code) (at-near .neighbour .ensures) (at-far .enum-told .given .1) in
+    c .refused2 .ensures ∙ moved-none (a .s) (a .cuts .now) (a .p) (a .code) to
 
 pub moved-point-spec : {M : Type 1} → statement M
 moved-point-spec =

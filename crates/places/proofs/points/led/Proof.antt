@@ -46,9 +46,15 @@ returns c =
     let rx = c .before .before .before .before .stepped in
     let ry = c .before .before .stepped2 in
     let rz = c .stepped3 in
-    let x = stepped-is (way along-x) (a .args .t) (ap (λ (t : Shift). t .ux) w) (ap (λ (t : Shift). t .dx) w) (a .pre .0 .in-x) (rx .ok) (rx .ensures) in
-    let y = stepped-is (way along-y) (a .args .t) (ap (λ (t : Shift). t .uy) w) (ap (λ (t : Shift). t .dy) w) (a .pre .0 .in-y) (ry .ok) (ry .ensures) in
-    let z = stepped-is (way along-z) (a .args .t) (ap (λ (t : Shift). t .uz) w) (ap (λ (t : Shift). t .dz) w) (a .pre .0 .in-z) (rz .ok) (rz .ensures) in
+    let x =
+    stepped-is (way along-x) (a .args .t) (ap (λ (t : Shift). t .ux) w) (ap (λ (t : Shift). t .dx) w) (a .pre .0 .in-x)
+    (rx .ok) (rx .ensures) in
+    let y =
+    stepped-is (way along-y) (a .args .t) (ap (λ (t : Shift). t .uy) w) (ap (λ (t : Shift). t .dy) w) (a .pre .0 .in-y)
+    (ry .ok) (ry .ensures) in
+    let z =
+    stepped-is (way along-z) (a .args .t) (ap (λ (t : Shift). t .uz) w) (ap (λ (t : Shift). t .dz) w) (a .pre .0 .in-z)
+    (rz .ok) (rz .ensures) in
     (place-is (along (placeAt (a .args .from)) way (a .args .t)) (x .eq) (y .eq) (z .eq), box-of x y z)
 
 pub led-spec : {M : Type 1} → statement M

@@ -1,11 +1,14 @@
 -- Moving in a block of one cube, whose points are the corners 0 to 7 and the centre 8: which points move, and by which codes.
--- Assumes nothing.
+-- Assumes nothing. (Files are checked in the order of their names: this one first, so that a wrong rule is refused by what it gives.)
+--     codes                   the bytes that are codes
+--     one-cube                the state tables of the cases
 use Prim.Native.Nat.{ℕ}
 use mathlib.Core.Path.{_≡_, refl}
 use mathlib.Core.List.{List, [], _∷_, map}
 use lib.IntN.{pos, negℤ}
 use lib.ListN.{replicate, set}
-use Rattle.basics.specs.Lists.{from, below, firstFrom}
+use Rattle.basics.specs.Choice.{if_then_else_}
+use Rattle.basics.specs.Lists.{gather, from, below, firstFrom}
 use Rattle.basics.specs.cases.Table.{Entry, _:=_, tableOf}
 use Rattle.lattice.specs.Counts.{cells, points}
 use Rattle.lattice.specs.Point.{linear, cell, kindOf}
@@ -13,10 +16,15 @@ use Rattle.lattice.specs.Direction.{directions, direction, long, isStart, direc
 use Rattle.lattice.specs.Edge.{staysIn, farKind, farIndex, near, edgeByte}
 use Rattle.moving.specs.Label.{labelOf, labels, isZero}
 use Rattle.moving.specs.Violation.{limit, measured, violates}
-use Rattle.moving.specs.Reading.{labelAfter, live, violatedAlong}
+use Rattle.moving.specs.Reading.{isMove, labelAfter, live, violatedAlong}
 use Rattle.moving.specs.Order.{moveTo, turn, moveBy}
 use Rattle.moving.specs.Moving.{choice, outset, stateAt, stateOf}
 use Rattle.moving.specs.Block.{Block, blockOf, readingOf}
+
+-- of all bytes those are codes that name an edge: 0 is none, and so is any above 14
+pub codes : gather (λ c. if isMove c then c ∷ [] else []) (below 256) ≡ from 1 14
+unfolding gather from isMove
+codes = refl
 
 -- a case: the one plus point among minus ones, its cut bytes that are not 0, and the codes that must come out
 pub record Case : Type 0 where
@@ -47,6 +55,7 @@ theCases =
 
 pub one-cube : map (λ c. stateOf (readingOf (block c))) theCases ≡ map (λ c. tableOf 9 (c .moves)) theCases
 unfolding
-    theCases block tableOf stateAt outset moveBy turn moveTo from choice violatedAlong labels live labelAfter labelOf isZero violates limit measured firstFrom
+    theCases block tableOf stateAt outset moveBy turn moveTo from choice firstFrom violatedAlong
+    labels live labelAfter labelOf isZero violates limit measured
     cells points linear cell kindOf directions direction long isStart directionOf step staysIn farKind farIndex near edgeByte
 one-cube = refl

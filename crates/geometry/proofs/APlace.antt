@@ -1,5 +1,6 @@
 -- The places of P2, P4, P6 and P8 of document 01, where points of a block of 2 by 2 by 2 cubes move to; and which way round a positive
--- six-volume is. Assumes nothing.
+-- six-volume is. Assumes nothing. (Files are checked in the order of their names: this one first, so that a wrong rule is refused by
+-- what it gives.)
 use Prim.Native.Nat.{ℕ}
 use mathlib.Core.Path.{_≡_, refl}
 use mathlib.Core.List.{[], _∷_}
