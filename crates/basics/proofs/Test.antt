@@ -141,18 +141,30 @@ lt-or zero (suc b) = inl (omega arith)
 lt-or (suc a) zero = inr (omega arith)
 lt-or (suc a) (suc b) = elim (lt-or a b) [ inl h ↦ inl (omega (arith, h)) | inr h ↦ inr (omega (arith, h)) ]
 
--- three tests made one after the other, each with its result: all of them
+-- three tests made one after the other, each with its result: all of them, or any of them
 pub record All₃ (e a b c : Bool) : Type 0 where
   pub is : e ≡ (a && (b && c))
+
+pub record Any₃ (e a b c : Bool) : Type 0 where
+  pub is : e ≡ (a || (b || c))
 
 module _ {e a b c ra rb rc : Bool} where
   pub all-three : All₃ e a b c → ra ≡ a → ra ≡ true → rb ≡ b → rb ≡ true → rc ≡ c → rc ≡ e
   all-three w p t q u r = r ∙ sym (w .is ∙ (λ i. (sym p ∙ t) i && ((sym q ∙ u) i && c)))
 
+  pub none-before : Any₃ e a b c → ra ≡ a → ra ≡ false → rb ≡ b → rb ≡ false → rc ≡ c → rc ≡ e
+  none-before w p t q u r = r ∙ sym (w .is ∙ (λ i. (sym p ∙ t) i || ((sym q ∙ u) i || c)))
+
 module _ {e a b c ra rb : Bool} where
   pub second-fails : All₃ e a b c → ra ≡ a → ra ≡ true → rb ≡ b → rb ≡ false → false ≡ e
   second-fails w p t q u = sym (w .is ∙ (λ i. (sym p ∙ t) i && ((sym q ∙ u) i && c)))
 
+  pub second-holds : Any₃ e a b c → ra ≡ a → ra ≡ false → rb ≡ b → rb ≡ true → true ≡ e
+  second-holds w p t q u = sym (w .is ∙ (λ i. (sym p ∙ t) i || ((sym q ∙ u) i || c)))
+
 module _ {e a b c ra : Bool} where
   pub first-fails : All₃ e a b c → ra ≡ a → ra ≡ false → false ≡ e
   first-fails w p t = sym (w .is ∙ (λ i. (sym p ∙ t) i && (b && c)))
+
+  pub first-holds : Any₃ e a b c → ra ≡ a → ra ≡ true → true ≡ e
+  first-holds w p t = sym (w .is ∙ (λ i. (sym p ∙ t) i || (b || c)))

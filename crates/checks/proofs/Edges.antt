@@ -20,14 +20,13 @@ use Rattle.lattice.specs.Counts.{Sized, points}
 use Rattle.lattice.specs.Direction.{Code}
 use Rattle.lattice.specs.Edge.{exists, neighbour}
 use Rattle.lattice.specs.Rim.{rimAt}
-use Rattle.lattice.specs.inner.Site.{Sited, index}
+use Rattle.lattice.specs.inner.Site.{Sited, index, most}
 use Rattle.lattice.proofs.Bounds.{points-small}
 use Rattle.lattice.proofs.Edge.{neighbour-lt}
 use Rattle.lattice.proofs.Sites.{site-inside, near-yes, near-no}
 use Rattle.moving.specs.declared.Label.{Label}
 use Rattle.moving.specs.Label.{opposed}
 use Rattle.filling.specs.Check.{crosses, crossesTo}
-use Rattle.ground.specs.inner.Lines.{tableMost}
 use Rattle.ground.specs.inner.Strides.{endsAt}
 use Rattle.ground.proofs.Sites.{site-lt, site-near}
 use Rattle.ground.proofs.FarEnds.{end-is}
@@ -76,7 +75,7 @@ module _ (s : Sizes) (q : Site) (h : Sized s) (g : Sited s q) (d : ℕ) (i : d <
 
 -- a decoded point has a sample
 pub asked-in : {s : Sizes} {samples : List ℤ} {q : Site} → Asked s samples q
-    → (q .own < length samples) × (length samples ≤ tableMost)
+    → (q .own < length samples) × (length samples ≤ most)
 asked-in {s} {q = q} a =
     (omega (arith, a .long, site-lt s q (a .sized) (a .sited)), omega (arith, a .long, points-small s (a .sized)))
 

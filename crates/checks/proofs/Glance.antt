@@ -25,13 +25,13 @@ use Rattle.moving.specs.Label.{labels}
 use Rattle.filling.specs.Check.{crosses, cutFault}
 use Rattle.ground.specs.inner.Lines.{Line, lineAt}
 use Rattle.ground.specs.inner.Signs.{hasSign}
-use Rattle.ground.specs.inner.Strides.{endsOf, endsAt}
+use Rattle.ground.specs.inner.Strides.{endsOf, endsAt, rangeMost}
 use Rattle.ground.proofs.Labels.{same-sign}
 use Rattle.ground.proofs.Points.{sited}
 use Rattle.ground.proofs.Lines.{line-stands, line-at}
 use Rattle.ground.proofs.FarEnds.{line-fits-across, site-numbers}
 use Rattle.checks.specs.inner.Faults.{PointFine, LineFine, crossingsAt}
-use Rattle.checks.specs.inner.Glance.{Calm, Level, Held, rangeMost, Covers}
+use Rattle.checks.specs.inner.Glance.{Calm, Level, Held, Covers}
 use Rattle.checks.proofs.Faults.{none-at, byte-fine, crossing-at}
 use Rattle.checks.proofs.Edges.{calm-crosses}
 

@@ -12,17 +12,17 @@ ghost use mathlib.Core.Bool.{true};
 ghost use Prim.Native.Nat.{ℕ, _<_, _≤_};
 ghost use lib.ListN.{length, getD};
 ghost use Rattle.lattice.specs.Counts.{Sized};
-ghost use Rattle.lattice.specs.inner.Site.{Sited};
+ghost use Rattle.lattice.specs.inner.Site.{Sited, most};
 ghost use Rattle.moving.specs.Block.{blockOf, Tabled};
 ghost use Rattle.moving.specs.Label.{labels};
-ghost use Rattle.ground.specs.inner.Lines.{Line, tableMost};
-ghost use Rattle.ground.specs.inner.Strides.{endsAt};
+ghost use Rattle.ground.specs.inner.Lines.{Line};
+ghost use Rattle.ground.specs.inner.Strides.{endsAt, rangeMost};
 ghost use Rattle.checks.specs.inner.Faults.{Asked, PointFine, LineFine};
-ghost use Rattle.checks.specs.inner.Glance.{Calm, Covers, Level, rangeMost};
+ghost use Rattle.checks.specs.inner.Glance.{Calm, Covers, Level};
 
 // No sample of seven points is opposed to the point's own.
 fn is_calm(samples: &[i16], own: usize, ends: [usize; 7]) -> bool
-    requires { ⌜ (own < length (now samples)) × (length (now samples) ≤ tableMost) ⌝ }
+    requires { ⌜ (own < length (now samples)) × (length (now samples) ≤ most) ⌝ }
     requires { ⌜ ((d : ℕ) → d < 7 → getD ends d 0 < length (now samples)) ⌝ }
     ensures { λ r. ⌜ (r ≡ true → Calm (labels (now (samples .entry))) own ends) ⌝ }
 {
@@ -66,7 +66,7 @@ fn range_starts(s: Sizes, q: Site) -> [usize; 5]
 
 // In none of five ranges of m + 1 samples there is one above zero, or there is none below.
 fn is_level(plus: bool, samples: &[i16], starts: [usize; 5], m: usize) -> bool
-    requires { ⌜ (length (now samples) ≤ tableMost) × (m ≤ 65) ⌝ }
+    requires { ⌜ (length (now samples) ≤ most) × (m ≤ 65) ⌝ }
     requires { ⌜ ((k : ℕ) → k < 5 → getD starts k 0 ≤ rangeMost) ⌝ }
     ensures { λ r. ⌜ (r ≡ true → Level plus (now (samples .entry)) starts m) ⌝ }
 {

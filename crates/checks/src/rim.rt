@@ -15,9 +15,10 @@ ghost use lib.ListN.{length};
 ghost use Rattle.lattice.specs.Axis.{along-x, along-y, along-z};
 ghost use Rattle.lattice.specs.Counts.{Sized, grid, points};
 ghost use Rattle.lattice.specs.Rim.{outermost};
+ghost use Rattle.lattice.specs.inner.Site.{most};
 ghost use Rattle.moving.specs.Label.{labels, isPlus};
 ghost use Rattle.filling.specs.Check.{rimFault, firstRim};
-ghost use Rattle.ground.specs.inner.Lines.{Line, tableMost};
+ghost use Rattle.ground.specs.inner.Lines.{Line};
 ghost use Rattle.checks.specs.inner.Search.{FirstIn};
 
 // All points of a line are on the rim.
@@ -36,7 +37,7 @@ fn is_outer(s: Sizes, q: Site) -> bool
 
 // The first point above zero from one point on and before another.
 fn first_plus(samples: &[i16], from: usize, to: usize) -> usize
-    requires { ⌜ (from ≤ to) × (to ≤ length (now samples)) × (length (now samples) ≤ tableMost) ⌝ }
+    requires { ⌜ (from ≤ to) × (to ≤ length (now samples)) × (length (now samples) ≤ most) ⌝ }
     ensures { λ r. ⌜ FirstIn (λ (p : ℕ). isPlus (labels (now (samples .entry)) p)) from to r ⌝ }
 {
     for p in from..to {

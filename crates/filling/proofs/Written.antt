@@ -71,26 +71,30 @@ module _ (b : Block) (state rows : List ℕ) where
     unfolding written
     number-10 f = rw (accepted-fills b state rows h l, lt-leb _ _ f) refl
 
+  abbrev pub mesh : List (Row ℕ)
+  mesh = meshOf (readingOf b)
+
   -- the row table of a filling: the rows, and "entries beyond 4T stay untouched"
-  pub rows-written : fill b state rows .answer .number ≡ 0 → fill b state rows .rows ≡ table (meshOf (readingOf b)) ++ drop (4 * length (meshOf (readingOf b))) rows
+  pub rows-written : fill b state rows .answer .number ≡ 0
+      → fill b state rows .rows ≡ table mesh ++ drop (4 * length mesh) rows
   unfolding written overwritten
   rows-written e =
       let p = passed-all b state rows 0 (inl refl) e in
-      rw (p .is) (go (leb (4 * length (meshOf (readingOf b))) (length rows)) (rw (p .is) at e))
+      rw (p .is) (go (leb (4 * length mesh) (length rows)) (rw (p .is) at e))
     where
       go : (t : Bool) → _≡_ {A = ℕ} (if t then 0 else 10) 0
-          → (if t then table (meshOf (readingOf b)) ++ drop (length (table (meshOf (readingOf b)))) rows else rows) ≡ table (meshOf (readingOf b)) ++ drop (4 * length (meshOf (readingOf b))) rows
-      go true e = rw (table-length (meshOf (readingOf b))) refl
+          → (if t then table mesh ++ drop (length (table mesh)) rows else rows) ≡ table mesh ++ drop (4 * length mesh) rows
+      go true e = rw (table-length mesh) refl
       go false e = absurd (omega (arith, e))
 
   pub row-written : fill b state rows .answer .number ≡ 0
-      → (i : ℕ) → i < length (meshOf (readingOf b)) → rowRead (fill b state rows .rows) i ≡ nthRow (meshOf (readingOf b)) i
-  row-written e i h = rw (rows-written e) (table-row (meshOf (readingOf b)) (drop (4 * length (meshOf (readingOf b))) rows) i h)
+      → (i : ℕ) → i < length mesh → rowRead (fill b state rows .rows) i ≡ nthRow mesh i
+  row-written e i h = rw (rows-written e) (table-row mesh (drop (4 * length mesh) rows) i h)
 
   -- so the rows, read from the tables that filling leaves, are those of the definition
-  pub rows-read : fill b state rows .answer .number ≡ 0 → rowsRead (fill b state rows .rows) (fill b state rows .answer .rows) ≡ meshOf (readingOf b)
+  pub rows-read : fill b state rows .answer .number ≡ 0 → rowsRead (fill b state rows .rows) (fill b state rows .answer .rows) ≡ mesh
   unfolding rowsRead
   rows-read e =
       let p = passed-all b state rows 0 (inl refl) e in
-      read-all (rowRead (fill b state rows .rows)) (meshOf (readingOf b)) (fill b state rows .answer .rows) (row 0 0 0 0)
+      read-all (rowRead (fill b state rows .rows)) mesh (fill b state rows .answer .rows) (row 0 0 0 0)
       (sym (rows-counted (p .accepted) (p .state-long))) (row-written e)

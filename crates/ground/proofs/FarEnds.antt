@@ -18,11 +18,11 @@ use Rattle.lattice.specs.Counts.{Sized, grid, cells}
 use Rattle.lattice.specs.Point.{other, linear, number}
 use Rattle.lattice.specs.Direction.{Code, directions, direction, long, isStart, directionOf, step}
 use Rattle.lattice.specs.Edge.{exists, farKind, farIndex, near}
-use Rattle.lattice.specs.inner.Site.{Sited, index, oddOf}
+use Rattle.lattice.specs.inner.Site.{Sited, index, oddOf, most}
 use Rattle.lattice.proofs.Edge.{stays}
 use Rattle.lattice.proofs.Sites.{site-small, by-direction, number-add, far-index, near-yes, near-no, numbers-small}
 use Rattle.ground.specs.inner.Lines.{lineAt}
-use Rattle.ground.specs.inner.Strides.{endsOf, endsAt, startsBack, startsOf, startsAt}
+use Rattle.ground.specs.inner.Strides.{endsOf, endsAt, startsBack, startsOf, startsAt, rangeMost}
 
 -- an edge leads some cells up and some down in the grid of its far end
 strides : (s : Sizes) (k : Kind) (i : Axis → ℕ) (c e : ℕ) → Code c → near s k i c ≡ At e
@@ -100,11 +100,11 @@ module _ (s : Sizes) (q : Site) where
       (λ e n. omega (arith, strides s Centre (index q) 6 e (starting 5 (omega arith)) n))
       (λ e n. omega (arith, strides s Centre (index q) 7 e (starting 6 (omega arith)) n))
 
-back-small : (line layer wide own low d : ℕ) → own ≤ 1000000 → low ≤ 1000000 → wide ≤ 65 → d < 7
-    → getD (startsBack line layer wide own low) d 0 ≤ 1100000
+back-small : (line layer wide own low d : ℕ) → own ≤ most → low ≤ most → wide ≤ 65 → d < 7
+    → getD (startsBack line layer wide own low) d 0 ≤ rangeMost
 unfolding startsBack
 back-small line layer wide own low d h g w =
-    by-direction (λ d. getD (startsBack line layer wide own low) d 0 ≤ 1100000)
+    by-direction (λ d. getD (startsBack line layer wide own low) d 0 ≤ rangeMost)
     (omega arith) (omega arith) (omega arith) (omega arith) (omega arith) (omega arith) (omega arith) d
 
 -- every centre's number is past what a step down from it by one along every axis takes away
@@ -155,14 +155,14 @@ module _ (s : Sizes) (q : Site) (g : Sited s q) where
           corner-starts s (index q) (q .own) _ (own-as Corner k) (omega (arith, across-as Corner k, low-fits k)) d h e (near-as Corner k (d + 8) e n)
       go Centre k = centre-starts s (index q) (q .own) _ (own-as Centre k) (across-as Centre k) d h e (near-as Centre k (d + 8) e n)
 
-  pub start-small : Sized s → (back : List ℕ) → back ≡ startsAt s q → (d : ℕ) → d < 7 → getD back d 0 ≤ 1100000
+  pub start-small : Sized s → (back : List ℕ) → back ≡ startsAt s q → (d : ℕ) → d < 7 → getD back d 0 ≤ rangeMost
   unfolding startsAt
   start-small z back b d h = rw b (go (q .kind))
     where
-      m : (q .own ≤ 1000000) × (q .across ≤ 1000000)
+      m : (q .own ≤ most) × (q .across ≤ most)
       m = let n = numbers-small s q z g in (n .0, n .1)
 
-      go : (k : Kind) → getD (startsOf k s q) d 0 ≤ 1100000
+      go : (k : Kind) → getD (startsOf k s q) d 0 ≤ rangeMost
       go Corner = back-small _ _ _ _ _ d (m .0) (omega (arith, m .1)) (omega (arith, z .x-high)) h
       go Centre = back-small _ _ _ _ _ d (m .0) (m .1) (omega (arith, z .x-high)) h
 
@@ -233,8 +233,8 @@ pub record Small (s : Sizes) (q : Site) : Type 0 where
   pub x : q .x ≤ 64
   pub y : q .y ≤ 64
   pub z : q .z ≤ 64
-  pub own : q .own ≤ 1000000
-  pub across : q .across ≤ 1000000
+  pub own : q .own ≤ most
+  pub across : q .across ≤ most
   pub corner-layer : (s .nx + 1) * (s .ny + 1) ≤ 4225
   pub centre-layer : s .nx * s .ny ≤ 4096
   pub line : s .nx ≤ 64

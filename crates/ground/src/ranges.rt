@@ -6,6 +6,7 @@ ghost use mathlib.Core.Bool.{true, false};
 ghost use Prim.Native.Nat.{ℕ, _<_, _≤_};
 ghost use lib.IntN.{pos};
 ghost use lib.ListN.{length, getD};
+ghost use Rattle.lattice.specs.inner.Site.{most};
 ghost use Rattle.ground.specs.inner.Signs.{hasSign};
 
 fn lesser(a: usize, b: usize) -> usize
@@ -31,7 +32,7 @@ pub fn is_blank(bytes: &[u8], from: usize, to: usize) -> bool
 
 // The highest sample from one on and before another, or 0 if none is above zero.
 fn highest(samples: &[i16], from: usize, to: usize) -> i16
-    requires { ⌜ length (now samples) ≤ 1000000 ⌝ }
+    requires { ⌜ length (now samples) ≤ most ⌝ }
     ensures { λ r. ⌜ (hasSign true r ≡ false → (p : ℕ) → from ≤ p → p < to → hasSign true (getD (now (samples .entry)) p (pos 0)) ≡ false) ⌝ }
 {
     let end = lesser(to, samples.len());
@@ -47,7 +48,7 @@ fn highest(samples: &[i16], from: usize, to: usize) -> i16
 
 // The lowest sample from one on and before another, or 0 if none is below zero.
 fn lowest(samples: &[i16], from: usize, to: usize) -> i16
-    requires { ⌜ length (now samples) ≤ 1000000 ⌝ }
+    requires { ⌜ length (now samples) ≤ most ⌝ }
     ensures { λ r. ⌜ (hasSign false r ≡ false → (p : ℕ) → from ≤ p → p < to → hasSign false (getD (now (samples .entry)) p (pos 0)) ≡ false) ⌝ }
 {
     let end = lesser(to, samples.len());
@@ -63,7 +64,7 @@ fn lowest(samples: &[i16], from: usize, to: usize) -> i16
 
 // Some sample from one on and before another is above zero, or some is below.
 pub fn has_some(plus: bool, samples: &[i16], from: usize, to: usize) -> bool
-    requires { ⌜ length (now samples) ≤ 1000000 ⌝ }
+    requires { ⌜ length (now samples) ≤ most ⌝ }
     ensures { λ r. ⌜ (r ≡ false → (p : ℕ) → from ≤ p → p < to → hasSign plus (getD (now (samples .entry)) p (pos 0)) ≡ false) ⌝ }
 {
     if plus {

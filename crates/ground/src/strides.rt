@@ -6,7 +6,7 @@ use lattice::Sizes;
 ghost use mathlib.Core.Path.{_≡_};
 ghost use Prim.Native.Nat.{_-_, _≤_};
 ghost use Rattle.lattice.specs.Counts.{Sized};
-ghost use Rattle.lattice.specs.inner.Site.{Sited};
+ghost use Rattle.lattice.specs.inner.Site.{Sited, most};
 ghost use Rattle.ground.specs.inner.Strides.{endsAt, startsBack, startsAt};
 
 // The ends of the seven edges that start at a point, by direction: strides from the point's own number, and from
@@ -52,7 +52,7 @@ fn before(p: usize, stride: usize) -> usize
 
 // The same from the strides of a line, of a layer and of a line of the other kind.
 fn starts_back(line: usize, layer: usize, wide: usize, own: usize, low: usize) -> [usize; 7]
-    requires { ⌜ (own ≤ 1000000) × (low ≤ 1000000) × (wide ≤ 65) ⌝ }
+    requires { ⌜ (own ≤ most) × (low ≤ most) × (wide ≤ 65) ⌝ }
     ensures { λ r. ⌜ r ≡ startsBack line layer wide own low ⌝ }
 {
     let along_x = before(own, 1);

@@ -9,6 +9,7 @@ ghost use mathlib.Core.Path.{_≡_};
 ghost use Prim.Native.Nat.{_+_, _<_, _≤_};
 ghost use Rattle.lattice.specs.Axis.{along-x};
 ghost use Rattle.lattice.specs.Counts.{Sized, grid, points};
+ghost use Rattle.lattice.specs.inner.Site.{most};
 ghost use Rattle.ground.specs.inner.Lines.{Line, lineAt};
 
 // How many points a line has.
@@ -23,7 +24,7 @@ pub fn line_length(s: Sizes, kind: Kind) -> usize
 
 // The point of index x in the line that starts at q.
 pub fn along(q: Site, x: usize) -> Site
-    requires { ⌜ (q .own ≤ 1000000) × (q .across ≤ 1000000) × (x ≤ 65) ⌝ }
+    requires { ⌜ (q .own ≤ most) × (q .across ≤ most) × (x ≤ 65) ⌝ }
     ensures { λ r. ⌜ r ≡ lineAt q x ⌝ }
 {
     let kind = q.kind;

@@ -1,5 +1,5 @@
 -- Coordinates of lattice points, and of what stands a few steps from one. Assumes nothing.
-use Prim.Native.Nat.{ℕ, _+_, _*_, _-_, _%_, _^_, _≤_, _<_}
+use Prim.Native.Nat.{ℕ, _+_, _*_, _-_, _^_, _≤_, _<_}
 use native.Mathlib.Omega.{arith}
 use mathlib.Core.Path.{_≡_, refl, sym, ap, subst, _∙_}
 use lib.IntN.{ℤ, pos, _+ℤ_, _-ℤ_, _*ℤ_}
@@ -8,8 +8,9 @@ use borrow.Author.Tests.{le-leb, lt-leb}
 use Rattle.lattice.specs.declared.Kind.{Kind}
 use Rattle.lattice.specs.Axis.{Axis}
 use Rattle.lattice.specs.Point.{doubled}
-use Rattle.lattice.specs.Direction.{Step, Code, isStart, directionOf, direction, step}
+use Rattle.lattice.specs.Direction.{Step, Code, isStart, direction, step}
 use Rattle.lattice.specs.inner.Site.{oddOf}
+use Rattle.lattice.proofs.Codes.{start-step}
 use Rattle.lattice.proofs.Sites.{doubled-odd, odd-small}
 use Rattle.moving.specs.Violation.{measured}
 use Rattle.geometry.specs.Place.{signed}
@@ -33,10 +34,6 @@ stepped-is {x} {v} w t eu ed h f (e, b) =
     record { eq = result-is v f is; inside = subst (λ (z : ℤ). Within placeBox z) is b }
 
 -- the code of a direction at its start
-pub start-step : (d : ℕ) → d < 7 → (a : Axis) → step (d + 1) a ≡ direction d a
-unfolding step isStart directionOf
-start-step d h a = let e : (d + 1 - 1) % 7 ≡ d = omega arith in rw (le-leb (d + 1) 7 (omega arith), e) refl
-
 pub start-code : (d : ℕ) → d < 7 → Code (d + 1)
 start-code d h = record { low = omega arith; high = omega arith }
 

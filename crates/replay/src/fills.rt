@@ -9,6 +9,7 @@ use filling::Filled;
 ghost use mathlib.Core.Path.{_≡_};
 ghost use Prim.Native.Nat.{_+_, _*_, _≤_};
 ghost use lib.ListN.{length, replicate};
+ghost use Rattle.lattice.specs.Counts.{mostPoints};
 ghost use Rattle.filling.specs.Fill.{fill};
 ghost use Rattle.blockfile.specs.Format.{byteAt, fourAt, samplesFrom};
 ghost use Rattle.replay.specs.program.Fills.{cutsAt, stateAt, idsAt, sameAnswer, blockWith, replayed, statedTables, agreesWith, fillAgrees};
@@ -37,7 +38,7 @@ fn lend(
     state: &mut [u8],
     rows: &mut [u32],
 )
-    requires { ⌜ (l .samples ≤ 536769) × (cutsAt l ≤ length (now body)) ⌝ }
+    requires { ⌜ (l .samples ≤ mostPoints) × (cutsAt l ≤ length (now body)) ⌝ }
     requires { ⌜ (length (now samples) ≡ l .samples) × (length (now state) ≡ l .state) × (length (now rows) ≡ l .rows) ⌝ }
     ensures { λ _. ⌜ now (samples .exit) ≡ samplesFrom (now (body .entry)) 3 (l .samples) ⌝ }
     ensures { λ _. ⌜ now (state .exit) ≡ replicate (l .state) (byteAt (now (head .entry)) 28) ⌝ }
@@ -74,7 +75,7 @@ fn replay(
     state: &mut [u8],
     rows: &mut [u32],
 ) -> Filled
-    requires { ⌜ (l .samples ≤ 536769) × (idsAt l + 2 * l .ids ≡ length (now body)) ⌝ }
+    requires { ⌜ (l .samples ≤ mostPoints) × (idsAt l + 2 * l .ids ≡ length (now body)) ⌝ }
     requires { ⌜ (length (now samples) ≡ l .samples) × (length (now state) ≡ l .state) × (length (now rows) ≡ l .rows) ⌝ }
     ensures { λ r. ⌜ r ≡ replayed (now (head .entry)) (now (body .entry)) l .answer ⌝ }
     ensures { λ _. ⌜ now (state .exit) ≡ replayed (now (head .entry)) (now (body .entry)) l .state ⌝ }
@@ -110,7 +111,7 @@ fn is_agreed(
     state: &mut [u8],
     rows: &mut [u32],
 ) -> bool
-    requires { ⌜ (l .samples ≤ 536769) × (idsAt l + 2 * l .ids ≡ length (now body)) × (l .ids ≤ l .rows) ⌝ }
+    requires { ⌜ (l .samples ≤ mostPoints) × (idsAt l + 2 * l .ids ≡ length (now body)) × (l .ids ≤ l .rows) ⌝ }
     requires { ⌜ (length (now samples) ≡ l .samples) × (length (now state) ≡ l .state) × (length (now rows) ≡ l .rows) ⌝ }
     ensures { λ r. ⌜ r ≡ agreesWith (now (head .entry)) (now (body .entry)) l ⌝ }
 {

@@ -20,7 +20,7 @@ use Rattle.moving.specs.Violation.{rule1, Rule, violates}
 use Rattle.moving.specs.Reading.{Reading, violatedBy}
 use Rattle.moving.specs.Moving.{choice}
 use Rattle.ground.specs.inner.Lines.{Line, lineAt}
-use Rattle.ground.specs.inner.Strides.{startsAt}
+use Rattle.ground.specs.inner.Strides.{startsAt, rangeMost}
 use Rattle.ground.proofs.Points.{sited}
 use Rattle.ground.proofs.Lines.{line-stands, line-at}
 use Rattle.ground.proofs.Sites.{site-near}
@@ -71,13 +71,13 @@ rangesFrom back = getD back 0 0 ∷ getD back 1 0 ∷ getD back 2 0 ∷ getD bac
 
 -- they are not far from the line
 pub ranges-small : (s : Sizes) (q : Site) → Sized s → Sited s q → (back : List ℕ) → back ≡ startsAt s q
-    → (k : ℕ) → k < 5 → getD (rangesFrom back) k 0 ≤ 1100000
+    → (k : ℕ) → k < 5 → getD (rangesFrom back) k 0 ≤ rangeMost
 ranges-small s q h g back b = five
   where
-    small : (d : ℕ) → d < 7 → getD back d 0 ≤ 1100000
+    small : (d : ℕ) → d < 7 → getD back d 0 ≤ rangeMost
     small = start-small s q g h back b
 
-    five : (k : ℕ) → k < 5 → getD (rangesFrom back) k 0 ≤ 1100000
+    five : (k : ℕ) → k < 5 → getD (rangesFrom back) k 0 ≤ rangeMost
     five zero l = small 0 (omega arith)
     five (suc zero) l = small 1 (omega arith)
     five (suc (suc zero)) l = small 2 (omega arith)

@@ -12,6 +12,7 @@ ghost use lib.ListN.{getD};
 ghost use Rattle.lattice.specs.Axis.{along-x};
 ghost use Rattle.lattice.specs.Counts.{Sized, grid};
 ghost use Rattle.lattice.specs.inner.Site.{Sited};
+ghost use Rattle.ground.specs.inner.Strides.{rangeMost};
 ghost use Rattle.ground.specs.inner.Lines.{Line};
 ghost use Rattle.warp.specs.inner.Quick.{Offsets, Uncut, Bare};
 
@@ -44,7 +45,7 @@ pub fn cut_at(cuts: &[u8], at: usize) -> u8
 
 // No cut starts at any of m + 1 points from one on.
 fn is_uncut(cuts: &[u8], from: usize, m: usize) -> bool
-    requires { ⌜ (from ≤ 1100000) × (m ≤ 65) ⌝ }
+    requires { ⌜ (from ≤ rangeMost) × (m ≤ 65) ⌝ }
     ensures { λ r. ⌜ (r ≡ true → Uncut (now (cuts .entry)) from m) ⌝ }
 {
     ranges::is_blank(cuts, 7 * from, 7 * (from + m + 1))

@@ -7,7 +7,8 @@ use Rattle.lattice.specs.Counts.{sizesFit, cells, points, tetrahedra}
 use Rattle.yakuemi.specs.declared.measures.Measures.{Measures}
 use Rattle.yakuemi.specs.Measures.{measure, sizes}
 
-pub measured : (s : Sizes) (p t : ℕ) → sizesFit s ≡ true → p ≡ points s → t ≡ tetrahedra s → record { number = 0; points = p; tetrahedra = t } ≡ measure s
+pub measured : (s : Sizes) (p t : ℕ) → sizesFit s ≡ true → p ≡ points s → t ≡ tetrahedra s
+    → record { number = 0; points = p; tetrahedra = t } ≡ measure s
 unfolding measure
 measured s p t fit e f = (λ i. record { number = 0; points = e i; tetrahedra = f i }) ∙ sym (simp fit)
 

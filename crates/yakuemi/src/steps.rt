@@ -76,7 +76,13 @@ fn fill_tabled(s: Sizes, samples: &[i16], cuts: &[u8], state: &mut [u8], rows: &
 }
 
 // Sizes, then the lengths of the tables.
-pub fn fill_sized(s: Sizes, samples: &[i16], cuts: &[u8], state: &mut [u8], rows: &mut [u32]) -> Filled
+pub fn fill_sized(
+    s: Sizes,
+    samples: &[i16],
+    cuts: &[u8],
+    state: &mut [u8],
+    rows: &mut [u32],
+) -> Filled
     ensures { λ r. ⌜ Fills (blockOf s (now (samples .entry)) (now (cuts .entry)))
         (now (state .entry)) (now (rows .entry)) r (now (state .exit)) (now (rows .exit)) ⌝ }
 {

@@ -9,6 +9,7 @@ use mathlib.Core.Bool.{Bool, false}
 use mathlib.Core.List.{List}
 use lib.IntN.{ℤ, pos}
 use lib.ListN.{getD}
+use Rattle.ground.specs.inner.Strides.{rangeMost}
 use Rattle.moving.specs.declared.Label.{Label}
 use Rattle.moving.specs.Label.{opposed}
 use Rattle.ground.specs.inner.Signs.{hasSign}
@@ -26,10 +27,6 @@ pub record Held (starts : List ℕ) (p : ℕ) : Type 0 where
   pub is-range : range < 5
   pub from : getD starts range 0 ≤ p
   pub to : p ≤ getD starts range 0 + 1
-
--- no range starts further on
-abbrev pub rangeMost : ℕ
-rangeMost = 1100000
 
 pub record Covers (p : ℕ) (ends starts : List ℕ) : Type 0 where
   pub self : getD starts 0 0 ≡ p

@@ -6,10 +6,6 @@ use Rattle.lattice.specs.declared.Site.{Site}
 use Rattle.lattice.specs.Counts.{points}
 use Rattle.lattice.specs.inner.Site.{siteOf}
 
--- no table of samples that is walked is longer
-abbrev pub tableMost : ℕ
-tableMost = 1000000
-
 -- q is the decoded point p, the first of its line
 pub record Line (s : Sizes) (p : ℕ) (q : Site) : Type 0 where
   pub is : q ≡ siteOf s p

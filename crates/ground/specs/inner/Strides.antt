@@ -7,6 +7,10 @@ use Rattle.lattice.specs.declared.Kind.{Kind}
 use Rattle.lattice.specs.declared.Kind.the-variants.{Corner, Centre}
 use Rattle.lattice.specs.declared.Site.{Site}
 
+-- no stride leads further, nor does a range of points start further on
+abbrev pub rangeMost : ℕ
+rangeMost = 1100000
+
 -- the ends of the seven edges that start at a point, by direction
 abbrev pub endsOf : Kind → Sizes → Site → List ℕ
 endsOf Corner s q =

@@ -10,6 +10,7 @@ use lib.IntN.{ℤ}
 use lib.ListN.{length, take, drop, replicate}
 use lib.Dec.{eqb, leb}
 use Rattle.basics.specs.Choice.{if_then_else_}
+use Rattle.lattice.specs.Counts.{mostPoints}
 use Rattle.moving.specs.Block.{Block, blockOf}
 use Rattle.filling.specs.declared.Filled.{Filled}
 use Rattle.filling.specs.Fill.{Outcome, fill}
@@ -39,7 +40,7 @@ module _ (l : Lengths) where
   unfoldable pub fits : ℕ → ℕ → ℕ → ℕ → Bool
   fits body samples state rows =
       eqb body (idsAt + 2 * l .ids)
-      && (leb (l .samples) 536769 && (leb (l .samples) samples && (leb (l .state) state && (leb (l .rows) rows && leb (l .ids) (l .rows)))))
+      && (leb (l .samples) mostPoints && (leb (l .samples) samples && (leb (l .state) state && (leb (l .rows) rows && leb (l .ids) (l .rows)))))
 
 unfoldable pub sameAnswer : Filled → Filled → Bool
 sameAnswer a b = eqb (a .number) (b .number) && (eqb (a .rows) (b .rows) && (eqb (a .moved) (b .moved) && eqb (a .place) (b .place)))

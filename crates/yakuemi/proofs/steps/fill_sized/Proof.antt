@@ -87,8 +87,7 @@ fill-tabled-requires c κs =
     let at-three = at-four .before in
     let at-two = at-three .before in
     let at-count = at-two .before in
-    let n = at-count .point-count .ensures in
-    (
+    let n = at-count .point-count .ensures in (
       record {
         sized = fits-sized _ (sym (at-count .before .before .sizes-fit .ensures) ∙ not-false _ (at-count .before .if1 .left));
         samples-long = at-two .if2 .left ∙ n;
