@@ -2,10 +2,14 @@
 use mathlib.Core.Path.{_≡_, refl}
 use mathlib.Core.List.{map}
 use Rattle.casebook.specs.cases.Given.{laid, laidRuns, givenSamples, givenCuts, changed}
-use Rattle.casebook.specs.cases.Cases.{cases}
+use Rattle.casebook.specs.cases.Cases.{cases, strange}
 use Rattle.casebook.specs.cases.Result.{computed, expected, found, resultOf}
 use Rattle.casebook.proofs.Opened.{definitions}
 
 pub cases-come-out : map computed cases ≡ map expected cases
 unfolding definitions laid laidRuns givenSamples givenCuts changed cases computed expected found resultOf
 cases-come-out = refl
+
+pub strange-come-out : map computed strange ≡ map expected strange
+unfolding definitions laid laidRuns givenSamples givenCuts changed strange computed expected found resultOf
+strange-come-out = refl

@@ -3,7 +3,7 @@
 use Prim.Native.Nat.{ℕ}
 use mathlib.Core.List.{List, [], _∷_}
 use lib.IntN.{ℤ, pos}
-use Rattle.basics.specs.cases.Table.{_:=_}
+use Rattle.basics.specs.cases.Table.{Entry, _:=_}
 use Rattle.stencil.specs.Row.{Row, row}
 use Rattle.filling.specs.declared.Filled.{Filled}
 use Rattle.filling.specs.declared.Placed.{Placed}
@@ -11,11 +11,12 @@ use Rattle.casebook.specs.cases.Lent.{State, as-lent, codes}
 use Rattle.casebook.specs.cases.Given.{Change, unchanged, byte-at, sample-at}
 
 -- what a case says besides the answer and the tables: how many points and lattice tetrahedra there are, the first row as written with its
--- six-volume, or what the place call answers for an id after filling
+-- six-volume, or what the place call answers for an id after filling, or after filling and with one entry of the state table set
 pub data Claim : Type 0 where
   counts : (points lattice : ℕ) → Claim
   first-row : Row ℕ → ℤ → Claim
   place-of : ℕ → Placed → Claim
+  place-with : Entry → ℕ → Placed → Claim
 
 pub record Case : Type 0 where
   pub change : Change
@@ -39,6 +40,10 @@ refused n p = record { number = n; rows = 0; moved = 0; place = p }
 
 abbrev pub at : ℕ → ℕ → ℕ → Placed
 at x y z = record { number = 0; x = x; y = y; z = z }
+
+-- "a refusal's place is (0,0,0)"
+abbrev pub nowhere : ℕ → Placed
+nowhere n = record { number = n; x = 0; y = 0; z = 0 }
 
 unfoldable pub cases : List Case
 cases =
@@ -69,4 +74,20 @@ cases =
     -- "Row table of 95 numbers: 10 with T 24; of 96: filled"
     ∷ case unchanged 95 (too-short 24 0) (codes []) []
     ∷ case unchanged 96 (filled 24 0) (codes []) []
+    ∷ []
+
+-- State bytes above 14, after the given case with one byte changed (as in P4, and its like along y): "9: the state byte is above 14", though
+-- the directions of 15 and 16 would be those of 8 and 9, whose cuts violate; "8: .. or has an end with a non-zero state byte", either end.
+-- The theorem is `strange-come-out`.
+unfoldable pub strange : List Case
+strange =
+    case (byte-at 91 193) 100 (filled 24 1) (codes (14 := 8 ∷ []))
+    (place-of 14 (at 898 512 512)
+    ∷ place-with (14 := 15) 14 (nowhere 9)
+    ∷ place-of 127 (at 512 768 512)
+    ∷ place-with (13 := 15) 127 (nowhere 8)
+    ∷ place-with (16 := 15) 127 (nowhere 8)
+    ∷ [])
+    ∷ case (byte-at 92 193) 100 (filled 24 1) (codes (16 := 9 ∷ []))
+    (place-of 16 (at 512 898 512) ∷ place-with (16 := 16) 16 (nowhere 9) ∷ [])
     ∷ []

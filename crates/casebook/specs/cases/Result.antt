@@ -4,6 +4,7 @@ use mathlib.Core.List.{List, map}
 use lib.ListN.{getD, drop}
 use lib.Dec.{eqb}
 use Rattle.basics.specs.Choice.{if_then_else_}
+use Rattle.basics.specs.cases.Table.{entered}
 use Rattle.lattice.specs.Counts.{points, tetrahedra}
 use Rattle.moving.specs.Block.{Block}
 use Rattle.stencil.specs.Row.{Row, row}
@@ -14,7 +15,7 @@ use Rattle.filling.specs.Fill.{Outcome, fill}
 use Rattle.filling.specs.Located.{locate}
 use Rattle.casebook.specs.cases.Lent.{lentState, lentRows, stateTable}
 use Rattle.casebook.specs.cases.Given.{givenSizes, changed}
-use Rattle.casebook.specs.cases.Cases.{Case, Claim, counts, first-row, place-of}
+use Rattle.casebook.specs.cases.Cases.{Case, Claim, counts, first-row, place-of, place-with}
 
 pub record Result : Type 0 where
   pub answer : Filled
@@ -45,6 +46,7 @@ module _ (b : Block) (o : Outcome) where
   found (counts n l) = counts (points (b .sizes)) (tetrahedra (b .sizes))
   found (first-row r v) = first-row firstRow (rowVolume (placeOf (b .sizes) (b .cuts) (o .state)) firstRow)
   found (place-of id p) = place-of id (locate (b .sizes) (b .cuts) (o .state) id)
+  found (place-with e id p) = place-with e id (locate (b .sizes) (b .cuts) (entered e (o .state)) id)
 
   unfoldable pub resultOf : List Claim → Result
   resultOf claims =

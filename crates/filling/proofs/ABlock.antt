@@ -1,0 +1,67 @@
+-- What filling says of blocks of one cube and of eight: every refusal, before those that come after it, and what stays in the lent
+-- tables. Assumes nothing. (Files are checked in the order of their names: this one first, so that a wrong rule is refused by what it gives.)
+use Prim.Native.Nat.{ℕ}
+use mathlib.Core.Path.{_≡_, refl}
+use mathlib.Core.List.{List, [], _∷_, map}
+use lib.IntN.{ℤ, pos, negℤ}
+use lib.ListN.{replicate, set}
+use Rattle.basics.specs.cases.Table.{Entry, _:=_, tableOf}
+use Rattle.lattice.specs.declared.Sizes.{Sizes}
+use Rattle.moving.specs.Block.{Block, blockOf}
+use Rattle.filling.specs.declared.Filled.{Filled}
+use Rattle.filling.specs.Fill.{Outcome, fill}
+use Rattle.filling.proofs.Opened.{definitions}
+
+abbrev cubes : ℕ → Sizes
+cubes n = record { nx = n; ny = n; nz = n }
+
+-- n samples, the one at p above zero and the others below
+abbrev plus : ℕ → ℕ → List ℤ
+plus n p = set (replicate n (negℤ (pos 5))) p (pos 5)
+
+-- a call of filling: the block, the lengths of the lent tables, and what comes out
+pub record Call : Type 0 where
+  pub block : Block
+  pub state : ℕ
+  pub rows : ℕ
+  pub outcome : Outcome
+
+abbrev lent : ℕ → List ℕ
+lent n = replicate n 99
+
+abbrev answer : ℕ → ℕ → ℕ → ℕ → Filled
+answer n t m p = record { number = n; rows = t; moved = m; place = p }
+
+-- a call that leaves both tables as lent, and one that fills the state table alone
+abbrev refuses : Block → ℕ → ℕ → ℕ → Call
+refuses b n number at =
+    record { block = b; state = n; rows = 3; outcome = record { answer = answer number 0 0 at; state = lent n; rows = lent 3 } }
+
+abbrev fills : Block → ℕ → ℕ → Filled → List Entry → Call
+fills b n rows a codes =
+    record { block = b; state = n; rows = rows; outcome = record { answer = a; state = tableOf n codes; rows = lent rows } }
+
+-- the cuts of the eight cubes about their middle point 13, with one byte of them at a value
+abbrev middle : Entry → List ℕ
+middle e =
+    tableOf 245 (e ∷ map (λ o. o := 128) (30 ∷ 71 ∷ 84 ∷ 91 ∷ 92 ∷ 93 ∷ 94 ∷ 95 ∷ 96 ∷ 97 ∷ 192 ∷ 200 ∷ 208 ∷ 216 ∷ []))
+
+unfoldable pub calls : List Call
+calls =
+    refuses (blockOf (cubes 0) [] []) 0 1 0
+    ∷ refuses (blockOf (cubes 1) (replicate 8 (pos 5)) []) 0 2 0
+    ∷ refuses (blockOf (cubes 1) (plus 9 3) (replicate 62 9)) 0 3 0
+    ∷ refuses (blockOf (cubes 1) (plus 9 3) (replicate 63 9)) 8 4 0
+    -- a rim point above zero, before any gap or stray byte; then the lowest of these
+    ∷ refuses (blockOf (cubes 1) (plus 9 3) (replicate 63 9)) 9 5 3
+    ∷ refuses (blockOf (cubes 2) (plus 35 13) (middle (71 := 0))) 35 6 71
+    ∷ refuses (blockOf (cubes 1) (replicate 9 (negℤ (pos 5))) (tableOf 63 (40 := 9 ∷ []))) 9 7 40
+    -- no row, and room for none
+    ∷ fills (blockOf (cubes 1) (replicate 9 (negℤ (pos 5))) (replicate 63 0)) 9 0 (answer 0 0 0 0) []
+    -- 24 rows, and no room for the last: "the state table is filled, the row table is untouched"
+    ∷ fills (blockOf (cubes 2) (plus 35 13) (middle (91 := 193))) 35 95 (answer 10 24 1 0) (14 := 8 ∷ [])
+    ∷ []
+
+pub fills-so : map (λ c. fill (c .block) (lent (c .state)) (lent (c .rows))) calls ≡ map (λ c. c .outcome) calls
+unfolding definitions calls
+fills-so = refl
