@@ -59,7 +59,7 @@ is-uncut-requires c κs =
     let s = at-start .args .s in
     let q = at-start .args .q in
     let g = sited (line-stands (at-start .pre .1)) in (
-      ranges-small s q (at-start .pre .0) g _ (at-ends .behind .ensures) (c .before .loop .k) (c .loop-test .taken),
+      ranges-small s q (at-start .pre .0) g _ (at-ends .behind .ensures) (c .before .loop .k) (omega (arith, c .loop-test .taken)),
       at-length .line-length .ensures .1 .1,
     )
 
