@@ -7,7 +7,6 @@ use mathlib.Core.Logic.{inl, inr}
 use mathlib.Core.Bool.{true}
 use mathlib.Core.List.{List}
 use lib.ListN.{length, getD}
-use lib.Dec.{T}
 use borrow.Author.Tests.{eq-eqb, ne-eqb, lt-leb, lt-ltb, le-ltb}
 use Rattle.basics.proofs.Test.{T-true}
 use Rattle.lattice.specs.declared.Near.the-variants.{At}
@@ -15,8 +14,8 @@ use Rattle.lattice.specs.Counts.{Sized, points}
 use Rattle.lattice.specs.Direction.{asStart}
 use Rattle.lattice.specs.Edge.{neighbour, byteAt}
 use Rattle.lattice.proofs.Sized.{sized-fits}
-use Rattle.moving.specs.Violation.{rule1, violates}
-use Rattle.moving.specs.Reading.{Reading, cutAlong}
+use Rattle.moving.specs.Violation.{rule1}
+use Rattle.moving.specs.Reading.{Reading}
 use Rattle.moving.specs.Moving.{outset}
 use Rattle.moving.proofs.Settled.{Reached}
 use Rattle.moving.proofs.Bytes.{code-move}
@@ -48,7 +47,7 @@ module _ (m : Reading) (asked : Asked m) (codes : List ℕ) (reached : Reached m
         | inl e ↦ rw (eq-eqb code 0 e) refl
         | inr v ↦
             let edge = v .1 .edge in
-            let near : T (violates rule1 code (cutAlong m p code (v .0))) = rw (asked .rule-is) at (v .1 .near) in
+            let near = rw (asked .rule-is) at (v .1 .near) in
             rw (ne-eqb code 0 (λ e. omega (arith, edge .code .low)), code-move code (edge .code), edge .leads) (T-true _ near)
       ]
     where

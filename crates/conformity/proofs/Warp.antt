@@ -2,13 +2,13 @@
 use Prim.Native.Nat.{ℕ, _-_, _≤_}
 use native.Mathlib.Omega.{arith}
 use mathlib.Core.Path.{_≡_, refl, sym, ap, _∙_}
-use mathlib.Core.Bool.{Bool, true, false, not}
+use mathlib.Core.Bool.{Bool, true, false}
 use mathlib.Core.List.{List}
 use lib.IntN.{pos, _+ℤ_, _*ℤ_}
 use lib.ListN.{getD}
-use lib.Dec.{T, eqb, leb, leb→le}
+use lib.Dec.{T}
 use Rattle.basics.specs.Choice.{if_then_else_}
-use Rattle.basics.proofs.Test.{&&-r, T-true}
+use Rattle.basics.proofs.Test.{T-true}
 use Rattle.lattice.specs.declared.Kind.{Kind}
 use Rattle.lattice.specs.declared.Near.the-variants.{At}
 use Rattle.lattice.specs.Axis.{Axis}
@@ -16,10 +16,11 @@ use Rattle.lattice.specs.Point.{doubled, Inside, number}
 use Rattle.lattice.specs.Direction.{Code, isStart, directionOf, step}
 use Rattle.lattice.specs.Edge.{near, byteAt, edgeByte}
 use Rattle.lattice.proofs.Edge.{FarEnd, far-end, near-number}
-use Rattle.moving.specs.Violation.{limit, measured, violates}
+use Rattle.moving.specs.Violation.{limit, measured}
 use Rattle.moving.specs.Reading.{Reading, isMove, cutAlong}
 use Rattle.moving.specs.Block.{Bytes}
 use Rattle.moving.proofs.Settled.{Violating}
+use Rattle.moving.proofs.Bytes.{violates-within}
 use Rattle.geometry.specs.Place.{Place, latticePlace, rest, signed, cutPlace, movedPlace, pointPlace}
 use Rattle.geometry.proofs.FromEnd.{rest-along, from-end}
 
@@ -68,7 +69,7 @@ module _ (m : Reading) (k : Kind) (i : Axis → ℕ) (inside : Inside (m .sizes)
     -- a point that a cut violates, moved there
     warped : (codes : List ℕ) (c q : ℕ) → Violating m codes p c q
         → Warped m c k i (cutPlace (m .sizes) (m .cuts) (if isStart c then p else q) (directionOf c))
-    unfolding violates measured edgeByte
+    unfolding measured edgeByte
     warped codes c q v =
         let e = v .edge in
         let t = cutAlong m p c q in
@@ -76,7 +77,7 @@ module _ (m : Reading) (k : Kind) (i : Axis → ℕ) (inside : Inside (m .sizes)
         record {
           code = e .code;
           t = measured c t;
-          within = leb→le _ _ (&&-r (not (eqb t 0)) (leb (measured c t) (limit (m .rule) (directionOf c))) (v .near));
+          within = violates-within (m .rule) c t (v .near);
           is = cut-is c q (far-end (m .sizes) k i c q inside (e .code) leads) (isStart c) refl;
         }
 

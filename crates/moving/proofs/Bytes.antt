@@ -1,5 +1,5 @@
 -- Labels by state bytes, and violations taken apart and put together. Assumes nothing.
-use Prim.Native.Nat.{ℕ, _<_}
+use Prim.Native.Nat.{ℕ, _≤_, _<_}
 use native.Mathlib.Omega.{arith}
 use mathlib.Core.Path.{_≡_, refl, sym, _∙_, subst}
 use mathlib.Core.Logic.{_⊎_, inl, inr}
@@ -7,19 +7,19 @@ use mathlib.Core.Bool.{Bool, true, false, not}
 use mathlib.Core.List.{List}
 use lib.ListN.{length, getD, set}
 use lib.Seq.{getD-set-same, getD-set-other}
-use lib.Dec.{T, eqb}
+use lib.Dec.{T, eqb, leb, leb→le}
 use borrow.Author.Tests.{eqb-true, eqb-false, eq-eqb, ne-eqb, le-leb}
 use Rattle.basics.specs.Choice.{if_then_else_}
 use Rattle.basics.proofs.Test.{&&-l, &&-r, &&-i}
 use Rattle.lattice.specs.declared.Near.{Near}
 use Rattle.lattice.specs.declared.Near.the-variants.{At, Nothing}
 use Rattle.lattice.specs.Counts.{points}
-use Rattle.lattice.specs.Direction.{Code}
+use Rattle.lattice.specs.Direction.{Code, directionOf}
 use Rattle.lattice.specs.Edge.{neighbour}
 use Rattle.moving.specs.declared.Label.{Label}
 use Rattle.moving.specs.declared.Label.the-variants.{Zero}
 use Rattle.moving.specs.Label.{isZero}
-use Rattle.moving.specs.Violation.{violates}
+use Rattle.moving.specs.Violation.{Rule, limit, measured, violates}
 use Rattle.moving.specs.Reading.{Reading, isMove, saysZero, labelAfter, live, cutAlong, violatedAlong, violatedBy}
 use Rattle.moving.proofs.Settled.{NonZero, Edge, Violating, MayMove}
 
@@ -75,6 +75,11 @@ module _ (label : ℕ → Label) (codes : List ℕ) where
 
   pub nonzero-i : (p : ℕ) → getD codes p 0 ≡ 0 → NonZero (label p) → NonZero (labelAfter label codes p)
   nonzero-i p e t = subst NonZero (sym (label-still p e)) t
+
+-- a cut that violates is within the limit
+pub violates-within : (r : Rule) (c t : ℕ) → T (violates r c t) → measured c t ≤ limit r (directionOf c)
+unfolding violates
+violates-within r c t v = leb→le _ _ (&&-r (not (eqb t 0)) (leb (measured c t) (limit r (directionOf c))) v)
 
 module _ (m : Reading) (codes : List ℕ) (p c : ℕ) where
   -- the violating cut of a code that violates
