@@ -3,7 +3,7 @@
 use Prim.Native.Nat.{ℕ, zero, suc, _+_, _*_, _≤_, _<_}
 use native.Mathlib.Omega.{arith}
 use mathlib.Core.Path.{_≡_, refl, sym, _∙_}
-use mathlib.Core.Logic.{inl}
+use mathlib.Core.Logic.{inl, inr}
 use mathlib.Core.Bool.{Bool, true, false, not}
 use mathlib.Core.List.{List, [], _∷_, _++_}
 use lib.ListN.{length, getD, drop}
@@ -72,16 +72,30 @@ module _ (b : Block) (state rows : List ℕ) where
     number-10 f = rw (accepted-fills b state rows h l, lt-leb _ _ f) refl
 
   -- the row table of a filling: the rows, and "entries beyond 4T stay untouched"
-  pub rows-written : fill b state rows .answer .number ≡ 0 → fill b state rows .rows ≡ table (meshOf (readingOf b)) ++ drop (4 * length (meshOf (readingOf b))) rows
+  pub rows-written : fill b state rows .answer .number ≡ 0
+      → fill b state rows .rows ≡ table (meshOf (readingOf b)) ++ drop (4 * length (meshOf (readingOf b))) rows
   unfolding written overwritten
   rows-written e =
       let p = passed-all b state rows 0 (inl refl) e in
       rw (p .is) (go (leb (4 * length (meshOf (readingOf b))) (length rows)) (rw (p .is) at e))
     where
       go : (t : Bool) → _≡_ {A = ℕ} (if t then 0 else 10) 0
-          → (if t then table (meshOf (readingOf b)) ++ drop (length (table (meshOf (readingOf b)))) rows else rows) ≡ table (meshOf (readingOf b)) ++ drop (4 * length (meshOf (readingOf b))) rows
+          → (if t then table (meshOf (readingOf b)) ++ drop (length (table (meshOf (readingOf b)))) rows else rows)
+          ≡ table (meshOf (readingOf b)) ++ drop (4 * length (meshOf (readingOf b))) rows
       go true e = rw (table-length (meshOf (readingOf b))) refl
       go false e = absurd (omega (arith, e))
+
+  -- "After 10 .. the row table is untouched"
+  pub rows-kept : fill b state rows .answer .number ≡ 10 → fill b state rows .rows ≡ rows
+  unfolding written overwritten
+  rows-kept e =
+      let p = passed-all b state rows 10 (inr refl) e in
+      rw (p .is) (go (leb (4 * length (meshOf (readingOf b))) (length rows)) (rw (p .is) at e))
+    where
+      go : (t : Bool) → _≡_ {A = ℕ} (if t then 0 else 10) 10
+          → (if t then table (meshOf (readingOf b)) ++ drop (length (table (meshOf (readingOf b)))) rows else rows) ≡ rows
+      go true e = absurd (omega (arith, e))
+      go false e = refl
 
   pub row-written : fill b state rows .answer .number ≡ 0
       → (i : ℕ) → i < length (meshOf (readingOf b)) → rowRead (fill b state rows .rows) i ≡ nthRow (meshOf (readingOf b)) i

@@ -47,7 +47,8 @@ loop-holds : tie.Need-loop-holds Inv-loop μ-loop
 loop-holds c =
     let at-clear = c .before .before .before .before in
     let at-start = at-clear .before .before .before .before in
-    warped-starts _ (at-clear .clear .ensures ∙ ap (λ (n : ℕ). replicate n 0) (at-start .pre .1)) (line-first (at-start .pre .0 .sized) (c .locate .ensures))
+    let zeros = at-clear .clear .ensures ∙ ap (λ (n : ℕ). replicate n 0) (at-start .pre .1) in
+    warped-starts _ zeros (line-first (at-start .pre .0 .sized) (c .locate .ensures))
 
 is-bare-line-requires : tie.Need-is-bare-line-requires Inv-loop μ-loop
 is-bare-line-requires c κs =
