@@ -41,6 +41,9 @@ questions =
     ∷ ask [] [] 72 (unplaced 8)
     ∷ []
 
-pub places-so : map (λ q. locate (record { nx = q .cubes; ny = q .cubes; nz = q .cubes }) (q .cuts) (q .state) (q .id)) questions ≡ map (λ q. q .placed) questions
+abbrev asked : Question → Placed
+asked q = locate (record { nx = q .cubes; ny = q .cubes; nz = q .cubes }) (q .cuts) (q .state) (q .id)
+
+pub places-so : map asked questions ≡ map (λ q. q .placed) questions
 unfolding definitions questions
 places-so = refl

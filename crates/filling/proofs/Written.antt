@@ -3,7 +3,7 @@
 use Prim.Native.Nat.{ℕ, zero, suc, _+_, _*_, _≤_, _<_}
 use native.Mathlib.Omega.{arith}
 use mathlib.Core.Path.{_≡_, refl, sym, _∙_}
-use mathlib.Core.Logic.{inl}
+use mathlib.Core.Logic.{inl, inr}
 use mathlib.Core.Bool.{Bool, true, false, not}
 use mathlib.Core.List.{List, [], _∷_, _++_}
 use lib.ListN.{length, getD, drop}
@@ -86,6 +86,18 @@ module _ (b : Block) (state rows : List ℕ) where
           → (if t then table mesh ++ drop (length (table mesh)) rows else rows) ≡ table mesh ++ drop (4 * length mesh) rows
       go true e = rw (table-length mesh) refl
       go false e = absurd (omega (arith, e))
+
+  -- "After 10 .. the row table is untouched"
+  pub rows-kept : fill b state rows .answer .number ≡ 10 → fill b state rows .rows ≡ rows
+  unfolding written overwritten
+  rows-kept e =
+      let p = passed-all b state rows 10 (inr refl) e in
+      rw (p .is) (go (leb (4 * length mesh) (length rows)) (rw (p .is) at e))
+    where
+      go : (t : Bool) → _≡_ {A = ℕ} (if t then 0 else 10) 10
+          → (if t then table mesh ++ drop (length (table mesh)) rows else rows) ≡ rows
+      go true e = absurd (omega (arith, e))
+      go false e = refl
 
   pub row-written : fill b state rows .answer .number ≡ 0
       → (i : ℕ) → i < length mesh → rowRead (fill b state rows .rows) i ≡ nthRow mesh i
