@@ -3,6 +3,7 @@
 mod fill;
 mod measures;
 mod place;
+mod place_mm;
 mod read;
 mod steps;
 
@@ -10,5 +11,6 @@ pub use fill::yakuemi_fill;
 pub use measures::Measures;
 pub use measures::yakuemi_measures;
 pub use place::yakuemi_place;
+pub use place_mm::yakuemi_place_mm;
 pub use read::ReadFile;
 pub use read::yakuemi_read;
