@@ -1,8 +1,10 @@
 //! An independent reference implementation of document 01, "Stuffing a
-//! scanned block with tetrahedra" (uniform isosurface stuffing).
+//! scanned block with tetrahedra" (uniform isosurface stuffing), and of
+//! request F-1 of document 02, "Customer requests after the base".
 //!
-//! It was written from document 01 and the paper it cites alone, to be
-//! compared with another implementation: in its answers and in its time.
+//! It was written from these documents, the paper that document 01 cites and
+//! IEEE 754 alone, to be compared with another implementation: in its answers
+//! and in its time.
 //!
 //! | Module | Meaning |
 //! |---|---|
@@ -13,6 +15,7 @@
 //! | [`strides`], [`bytes`], [`warp`], [`stencil`], [`emit`] | the steps of the fast filling |
 //! | [`plain`] | filling a block, sentence by sentence: the oracle |
 //! | [`place`] | measures of a block and the place of an id |
+//! | [`metric`] | the place of an id in millimetres, with floats and without |
 //! | [`block`], [`blockfile`] | a block, its file, the bench program's output |
 //! | [`check`] | brute-force check of the finished mesh (demand 3) |
 //! | [`random`], [`generate`], [`damage`], [`shapes`] | inputs for tests and timing |
@@ -34,6 +37,7 @@ pub mod emit;
 pub mod fill;
 pub mod generate;
 pub mod lattice;
+pub mod metric;
 pub mod place;
 pub mod plain;
 pub mod random;

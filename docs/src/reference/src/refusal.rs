@@ -1,4 +1,5 @@
-//! The numbers of the refusals (document 01, "Calls and refusals").
+//! The numbers of the refusals: 1 to 12 from document 01, "Calls and
+//! refusals"; 13 from document 02, request F-1.
 
 /// No refusal: the call was carried out.
 pub const NONE: u32 = 0;
@@ -26,3 +27,5 @@ pub const TABLE: u32 = 10;
 pub const FILE: u32 = 11;
 /// A size of 6 to 64 in the bench program.
 pub const BENCH: u32 = 12;
+/// The unit is not a number from 1/1,048,576 to 16.
+pub const UNIT: u32 = 13;
