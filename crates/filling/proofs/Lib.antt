@@ -5,3 +5,4 @@ pub mod Accepted
 pub mod Demanded
 pub mod Fits
 pub mod Written
+pub mod InBlock

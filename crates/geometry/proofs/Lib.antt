@@ -1,3 +1,4 @@
 pub mod APlace
 pub mod Determinant
 pub mod FromEnd
+pub mod InBlock

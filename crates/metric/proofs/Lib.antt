@@ -1,1 +1,4 @@
+pub mod Unit
+pub mod Product
 pub mod Cases
+pub mod Theorems

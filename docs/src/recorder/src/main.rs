@@ -1,10 +1,12 @@
 //! Writes calls of filling and of the place of an id, each with what the
 //! reference answers and leaves in the lent tables, to standard output: as
 //! crates/casebook/specs/cases/Blocks.antt with the argument `blocks`, and as
-//! crates/cases/stdin, many more of them and of the reader too, with `cases`.
+//! crates/cases/stdin, many more of them and of the reader too, with `cases`;
+//! with `millimetres` crates/casebook/specs/cases/Millimetres.antt.
 
 mod antt;
 mod calls;
+mod millimetres;
 mod records;
 
 use reference::damage::{Call, Outcome};
@@ -29,7 +31,8 @@ fn main() -> std::io::Result<()> {
     let bytes = match std::env::args().nth(1).as_deref() {
         Some("blocks") => written().into_bytes(),
         Some("cases") => records::file(),
-        _ => panic!("blocks or cases?"),
+        Some("millimetres") => millimetres::file().into_bytes(),
+        _ => panic!("blocks, cases or millimetres?"),
     };
     std::io::stdout().write_all(&bytes)
 }
@@ -119,6 +122,15 @@ mod tests {
     fn the_cases_are_what_this_writes() {
         let file = include_bytes!("../../../../crates/cases/stdin");
         assert!(file[..] == records::file(), "write crates/cases/stdin anew");
+    }
+
+    #[test]
+    fn the_millimetres_are_what_this_writes() {
+        let file = include_str!("../../../../crates/casebook/specs/cases/Millimetres.antt");
+        assert!(
+            file == millimetres::file(),
+            "write crates/casebook/specs/cases/Millimetres.antt anew"
+        );
     }
 
     #[test]
