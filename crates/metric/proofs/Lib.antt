@@ -1,4 +1,5 @@
+pub mod AUnit
+pub mod Cases
 pub mod Unit
 pub mod Product
-pub mod Cases
 pub mod Theorems

@@ -1,17 +1,14 @@
 -- The parts of the place call, case by case, and that together they are `locate`. Assumes nothing.
 use Prim.Native.Nat.{ℕ, _+_, _*_, _-_, _/_, _%_, _≤_, _<_}
 use native.Mathlib.Omega.{arith}
-use native.Mathlib.Nat.{mul-le-mul}
 use mathlib.Core.Path.{_≡_, refl, sym, ap, _∙_}
-use mathlib.Core.Logic.{_⊎_, inl, inr}
 use mathlib.Core.Bool.{Bool, true, false, not}
 use mathlib.Core.List.{List}
-use lib.IntN.{ℤ, pos, natAbs, _+ℤ_, _-ℤ_, _*ℤ_}
+use lib.IntN.{ℤ, pos, natAbs}
 use lib.ListN.{length, getD}
 use lib.Dec.{eqb}
 use borrow.Author.Tests.{eq-eqb, ne-eqb, le-leb, lt-leb, lt-ltb, le-ltb}
 use Rattle.basics.specs.Choice.{if_then_else_}
-use Rattle.basics.proofs.Integer.{ring, nat, _⊕_, _⊖_, _⊗_}
 use Rattle.lattice.specs.declared.Sizes.{Sizes}
 use Rattle.lattice.specs.declared.Near.{Near}
 use Rattle.lattice.specs.declared.Near.the-variants.{At, Nothing}
@@ -20,12 +17,11 @@ use Rattle.lattice.specs.Counts.{sizesFit, points}
 use Rattle.lattice.specs.Point.{doubled, kindOf, indexOf}
 use Rattle.lattice.specs.Direction.{Code, asStart, isStart, direction, step}
 use Rattle.lattice.specs.Edge.{neighbour, byteAt, edgeByte}
-use Rattle.lattice.proofs.Codes.{one-way}
-use Rattle.lattice.proofs.Edge.{far}
 use Rattle.moving.specs.Violation.{rule1, measured, violates}
 use Rattle.moving.specs.Reading.{isMove}
 use Rattle.moving.proofs.Bytes.{code-move, zero-rests}
 use Rattle.geometry.specs.Place.{latticePlace, rest, cutPlace, movedPlace, pointPlace, placeOf}
+use Rattle.geometry.proofs.InBlock.{edge-in}
 use Rattle.filling.specs.Located.{placed, unplaced, reaches, believable, standsTo, stands, idFault, locate}
 use Rattle.ground.specs.declared.Place.{Place}
 use Rattle.ground.specs.inner.Places.{placeAt, along, Nonnegative}
@@ -49,27 +45,11 @@ pub rest-up : (s : Sizes) (p : ℕ) (r : Place) → placeAt r ≡ rest s p → N
 unfolding latticePlace
 rest-up s p r e = upward r (λ a. 256 * doubled (kindOf s p) (indexOf s p a)) (λ a. ap (λ (f : Axis → ℤ). f a) e)
 
--- t steps of at most 256 down from x, where a whole step stays above 0
-down-up : (x up down t : ℕ) → t ≤ 256 → (up ≡ 0) ⊎ (down ≡ 0) → down ≤ x + up
-    → pos (256 * x) +ℤ pos t *ℤ (pos up -ℤ pos down) ≡ pos (256 * x + t * up - t * down)
-down-up x up down t h w l =
-    ring (nat (256 * x) ⊕ nat t ⊗ (nat up ⊖ nat down)) (nat (256 * x + t * up - t * down)) (omega (arith, room w))
-  where
-    room : (up ≡ 0) ⊎ (down ≡ 0) → t * down ≤ 256 * x
-    room (inl z) = mul-le-mul h (omega arith)
-    room (inr z) = rw z (omega arith)
-
 pub along-up : (s : Sizes) (p c q t : ℕ) → p < points s → Code c → neighbour s p c ≡ At q → t ≤ 256 → (r : Place)
     → placeAt r ≡ along (rest s p) (step c) t → Nonnegative r
-unfolding along latticePlace
+unfolding along
 along-up s p c q t h g e l r is =
-    upward r (λ a. 256 * x a + t * step c a .up - t * step c a .down)
-    (λ a.
-    let leads = far s p c q h g e .leads a in
-    ap (λ (f : Axis → ℤ). f a) is ∙ down-up (x a) (step c a .up) (step c a .down) t l (one-way c g a) (omega arith))
-  where
-    x : Axis → ℕ
-    x a = doubled (kindOf s p) (indexOf s p a)
+    upward r (λ a. edge-in s p h a c q t g e l .steps) (λ a. ap (λ (f : Axis → ℤ). f a) is ∙ edge-in s p h a c q t g e l .is)
 
 -- a point with a code
 pub measured-small : (c t : ℕ) → t ≤ 256 → measured c t ≤ 256
