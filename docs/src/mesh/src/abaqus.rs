@@ -10,16 +10,16 @@ const ELEMENTS: &str = "*ELEMENT, TYPE=C3D4, ELSET=RUBBER\n";
 /// Both programs read so many characters of a number and no more.
 const WIDEST: usize = 20;
 
-/// A coordinate as text that is read whole: the shortest that reads back as the same number, with an exponent where that makes it fit.
-/// Some numbers below 0.01 have 17 digits and fit neither way: of those the text has the most digits that fit, which are 16.
+/// A coordinate as text that is read whole: the shortest that reads back as the same number, if it fits. Else the number is below 0.01
+/// and has 16 or 17 digits, and 16 of them are written, the most that fit: as the least coordinate above zero is 1/1048576, the
+/// exponent has one digit.
 fn coordinate(number: f64) -> String {
     let text = shortest(number);
     if text.len() <= WIDEST {
-        return text;
+        text
+    } else {
+        format!("{number:.15e}")
     }
-    let rounded = (0..16).rev().map(|decimals| format!("{number:.decimals$e}"));
-    let mut texts = std::iter::once(format!("{number:e}")).chain(rounded);
-    texts.find(|text| text.len() <= WIDEST).expect("a digit and an exponent always fit")
 }
 
 /// The mesh as an input file.

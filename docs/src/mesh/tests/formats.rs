@@ -197,11 +197,21 @@ fn numbers_of_the_input_file() {
         (0.00001, "1e-5"),
         (1.0 / 1_048_576.0, "9.5367431640625e-7"),
     ];
-    let nodes: Vec<Point> = cases.iter().map(|&(number, _)| [number; 3]).collect();
-    let input = abaqus::write(&Mesh { nodes, elements: Vec::new() });
     let expected: Vec<&str> = cases.iter().flat_map(|&(_, word)| [word; 3]).collect();
-    assert_eq!(words(&input), expected);
-    for (number, word) in cases {
-        is_itself(word, number);
-    }
+    let numbers = cases.map(|(number, _)| number);
+    assert_eq!(words(&input_of(&numbers)), expected);
+
+    // any digits, at every size from the least coordinate above zero, one step of the least unit, to the most
+    let mut random = Random::new(94);
+    let mut any = || f64::from_bits((random.between(1023 - 20, 1023 + 18) as u64) << 52 | random.bits() >> 12);
+    let numbers: Vec<f64> = (0..100_000).map(|_| any()).collect();
+    let input = input_of(&numbers);
+    let rounded = words(&input).chunks(3).zip(&numbers).filter(|(word, &number)| !is_itself(word[0], number)).count();
+    assert!(rounded > 10_000, "{rounded}");
+}
+
+/// The input file of nodes with these numbers for coordinates.
+fn input_of(numbers: &[f64]) -> String {
+    let nodes = numbers.iter().map(|&number| [number; 3]).collect();
+    abaqus::write(&Mesh { nodes, elements: Vec::new() })
 }
