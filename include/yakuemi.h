@@ -21,8 +21,8 @@
  *
  * Tables. A table is a pointer and its length in entries, not in bytes. The pointer must be valid for that many entries, aligned
  * for its type, and not null even where the length is 0 (nothing is read or written through it then). Tables that are lent to one
- * call must not overlap. That is all that is asked: whatever sizes, lengths, contents and ids are handed in, the call ends with
- * an answer, touches nothing but the tables it was lent, keeps nothing, allocates nothing and uses no global state, so calls
+ * call must not overlap. That is all that is asked: whatever sizes, lengths, contents, ids and units are handed in, the call ends
+ * with an answer, touches nothing but the tables it was lent, keeps nothing, allocates nothing and uses no global state, so calls
  * on different tables may run at the same time.
  *
  * Answers. Every call answers a struct by value. Its number is 0, or one of the refusals below.
@@ -51,7 +51,8 @@ enum yakuemi_number {
     YAKUEMI_CODE = 9,     /* the point's state byte is not believable */
     YAKUEMI_TABLE = 10,   /* the row table holds fewer than 4T numbers */
     YAKUEMI_FILE = 11,    /* a malformed block file */
-    YAKUEMI_ROOM = 12     /* a lent table is too short for the block in the file */
+    YAKUEMI_ROOM = 12,    /* a lent table is too short for the block in the file */
+    YAKUEMI_UNIT = 13     /* the unit is not a number from 1/1048576 to 16 */
 };
 
 /* The measures of a block. */
@@ -148,6 +149,45 @@ struct yakuemi_placed yakuemi_place(uint32_t nx, uint32_t ny, uint32_t nz,
                                     const uint8_t *cuts, size_t cuts_len,
                                     const uint8_t *state, size_t state_len,
                                     uint32_t id);
+
+/* A point in millimetres, from the corner of the block with number 0. */
+struct yakuemi_point {
+    double x, y, z;
+};
+
+/* The answer of the place of an id in millimetres. */
+struct yakuemi_placed_mm {
+    uint32_t number;
+    struct yakuemi_point point;
+};
+
+/*
+ * The place of one id in millimetres: each whole number that yakuemi_place answers, turned exactly into a double and multiplied by the
+ * unit once. It writes nothing.
+ *
+ * The unit is the millimetres per step, and a step is a 512th of a cube's side. For cubes with a side of s millimetres it is
+ *
+ *   double unit = s / 512.0;
+ *
+ * which loses nothing, as 512 is a power of two. Units from 1/1048576 to 16 are taken, both ends too, so cubes with sides from
+ * 512/1048576 (about 0.0005) to 8192 millimetres can be had.
+ *
+ * Answers 0 with the point, for such a unit and every id of the rows of a filled block. The coordinates are finite (proved), and
+ *
+ *   exact      where the unit is a power of two, that is, where the side is a power of two millimetres (4, 2, 1, 0.5, ..): proved
+ *   rounded    at every other unit, once, to the nearest double, ties to even: each coordinate is within half an ulp (its last binary
+ *              place) of the exact product of the whole number and the unit handed in
+ *
+ * Or, with the point (0, 0, 0), three positive zeros, the first of these that applies: 1, 3, 4, 8, 9, as yakuemi_place has them; 13 if the
+ * unit is not a number from 1/1048576 to 16, so also if it is a NaN, an infinity, zero or below.
+ *
+ * A program starts with rounding to nearest. One that has set another mode (fesetround) sets it back before the call, or the products
+ * are rounded by that mode.
+ */
+struct yakuemi_placed_mm yakuemi_place_mm(uint32_t nx, uint32_t ny, uint32_t nz,
+                                          const uint8_t *cuts, size_t cuts_len,
+                                          const uint8_t *state, size_t state_len,
+                                          uint32_t id, double unit);
 
 #ifdef __cplusplus
 }

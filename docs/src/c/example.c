@@ -43,6 +43,16 @@ static void print_place(uint32_t id)
            (unsigned)p.z);
 }
 
+/* Millimetres per step of a place, for cubes with a side of 2 mm: a power of two, so the places in millimetres are exact. */
+static const double unit = 2.0 / 512.0;
+
+static void print_place_mm(uint32_t id, double mm)
+{
+    struct yakuemi_placed_mm p = yakuemi_place_mm(SIZE, SIZE, SIZE, cuts, sizeof cuts, state, sizeof state, id, mm);
+    printf("place of id %lu at %g mm a step: answer %u, (%.17g, %.17g, %.17g)\n", (unsigned long)id, mm, (unsigned)p.number, p.point.x,
+           p.point.y, p.point.z);
+}
+
 /* Asks for T with no room at all, then lends a table of just that length. */
 static int fill_and_print(void)
 {
@@ -57,6 +67,8 @@ static int fill_and_print(void)
            (unsigned long)rows[3]);
     for (int i = 0; i < 4; i++)
         print_place(rows[i]);
+    for (int i = 0; i < 4; i++)
+        print_place_mm(rows[i], unit);
     free(rows);
     return EXIT_SUCCESS;
 }
@@ -79,6 +91,8 @@ static void print_refusals(void)
     print_filled("byte 91 is 63", fill(rows, 96));
     print_place(MIDDLE);
     print_place(8 * POINTS);
+    print_place_mm(MIDDLE, unit);
+    print_place_mm(MIDDLE, 0.0);
 }
 
 /* Writes a block file of the given case, two bytes a sample and one run for each of eight groups of edges; answers its length. */

@@ -1,6 +1,6 @@
 //! Reading and filling a block file through the library.
 
-use crate::{Mesh, Place};
+use crate::{Mesh, Point};
 use yakuemi::Refusal;
 
 /// A block that was read from a file.
@@ -51,13 +51,15 @@ pub fn fill(block: &Block) -> Result<Filled, Refusal> {
     Ok(Filled { state, rows })
 }
 
-/// The mesh of a filled block: its nodes are the ids that the rows name, ascending.
-pub fn mesh(block: &Block, filled: &Filled) -> Result<Mesh, Refusal> {
+/// The mesh of a filled block at a unit: its nodes are the ids that the rows name, ascending.
+pub fn mesh(block: &Block, filled: &Filled, unit: f64) -> Result<Mesh, Refusal> {
+    let place = |id: u32| yakuemi::place_mm(block.sizes, &block.cuts, &filled.state, id, unit);
+    // the first point of a filled block always has a place, so a unit is refused also where there is no row
+    place(0)?;
     let mut ids = filled.rows.clone();
     ids.sort_unstable();
     ids.dedup();
-    let place = |&id: &u32| yakuemi::place(block.sizes, &block.cuts, &filled.state, id);
-    let nodes = ids.iter().map(place).collect::<Result<Vec<Place>, Refusal>>()?;
+    let nodes = ids.iter().map(|&id| place(id)).collect::<Result<Vec<Point>, Refusal>>()?;
     let mut node_of = vec![0; ids.last().map_or(0, |&id| id as usize + 1)];
     for (node, &id) in ids.iter().enumerate() {
         node_of[id as usize] = node;
@@ -67,8 +69,8 @@ pub fn mesh(block: &Block, filled: &Filled) -> Result<Mesh, Refusal> {
     Ok(Mesh { nodes, elements })
 }
 
-/// The mesh of a block file.
-pub fn mesh_of_file(file: &[u8]) -> Result<Mesh, Refusal> {
+/// The mesh of a block file at a unit.
+pub fn mesh_of_file(file: &[u8], unit: f64) -> Result<Mesh, Refusal> {
     let block = read(file)?;
-    mesh(&block, &fill(&block)?)
+    mesh(&block, &fill(&block)?, unit)
 }

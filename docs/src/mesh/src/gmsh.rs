@@ -1,6 +1,6 @@
 //! Gmsh 2.2, ASCII. Nodes and elements are numbered from 1.
 
-use crate::text::{coordinates, element, numbered, place, whole};
+use crate::text::{element, numbered, point, shortest, whole};
 use crate::Mesh;
 use std::fmt::Write;
 
@@ -13,7 +13,7 @@ const TETRAHEDRON: [&str; 4] = ["4", "2", "1", "1"];
 pub fn write(mesh: &Mesh) -> String {
     let mut text = format!("{HEAD}$Nodes\n{}\n", mesh.nodes.len());
     for (k, &node) in mesh.nodes.iter().enumerate() {
-        writeln!(text, "{} {}", k + 1, coordinates(node, " ")).unwrap();
+        writeln!(text, "{} {}", k + 1, node.map(shortest).join(" ")).unwrap();
     }
     write!(text, "$EndNodes\n$Elements\n{}\n", mesh.elements.len()).unwrap();
     let kind = TETRAHEDRON.join(" ");
@@ -37,7 +37,7 @@ pub fn read(text: &str) -> Option<Mesh> {
         (lines.next()? == end).then_some(())
     };
     section("$Nodes", "$EndNodes", &mut |words| {
-        mesh.nodes.push(place(words)?);
+        mesh.nodes.push(point(words)?);
         Some(())
     })?;
     section("$Elements", "$EndElements", &mut |words| {

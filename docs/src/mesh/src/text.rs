@@ -1,22 +1,16 @@
-//! What the three formats share: coordinates, and reading numbers back.
+//! What the formats share: numbers as text, and reading them back.
 
-use crate::{Mesh, Place, STEPS};
+use crate::{Mesh, Point};
 
-/// The coordinates in cubes, with a separator between them. A 512th has nine decimals at most, so nothing is lost.
-pub fn coordinates(place: Place, separator: &str) -> String {
-    place.map(|steps| format!("{:?}", f64::from(steps) / STEPS)).join(separator)
+/// The text with the fewest digits that reads back as the same number.
+pub fn shortest(number: f64) -> String {
+    format!("{number:?}")
 }
 
-/// The place of three coordinates in cubes, if they are whole 512ths.
-pub fn place(words: &[&str]) -> Option<Place> {
-    let [x, y, z] = words else {
-        return None;
-    };
-    let steps = |word: &str| {
-        let steps = word.parse::<f64>().ok()? * STEPS;
-        (steps.fract() == 0.0 && (0.0..1e9).contains(&steps)).then_some(steps as u32)
-    };
-    Some([steps(x)?, steps(y)?, steps(z)?])
+/// The point of three coordinates.
+pub fn point(words: &[&str]) -> Option<Point> {
+    let numbers = words.iter().map(|word| word.parse().ok());
+    numbers.collect::<Option<Vec<f64>>>()?.try_into().ok()
 }
 
 /// An element's nodes, from the numbers that a format gives them.

@@ -1,9 +1,9 @@
 //! What is looked at: the outer faces of a mesh that is cut open, and from where.
 
-use crate::{Mesh, Place, STEPS};
+use crate::Mesh;
 use std::collections::HashMap;
 
-/// A point or a direction, in cubes.
+/// A point or a direction.
 pub type Vector = [f64; 3];
 
 /// A triangle to be drawn.
@@ -34,13 +34,9 @@ fn sorted(mut face: [usize; 3]) -> [usize; 3] {
     face
 }
 
-fn in_cubes(place: Place) -> Vector {
-    place.map(|steps| f64::from(steps) / STEPS)
-}
-
 /// The middle of an element.
 fn middle(mesh: &Mesh, element: [usize; 4]) -> Vector {
-    let corners = element.map(|node| in_cubes(mesh.nodes[node]));
+    let corners = element.map(|node| mesh.nodes[node]);
     [0, 1, 2].map(|axis| corners.iter().map(|corner| corner[axis]).sum::<f64>() / 4.0)
 }
 
@@ -53,7 +49,7 @@ pub fn cut_open(mesh: &Mesh, keep: impl Fn(Vector) -> bool) -> Vec<Face> {
     let outer = outer.filter(|&face| among_kept[&sorted(face)] == 1);
     outer
         .map(|face| Face {
-            corners: face.map(|node| in_cubes(mesh.nodes[node])),
+            corners: face.map(|node| mesh.nodes[node]),
             skin: among_all[&sorted(face)] == 1,
         })
         .collect()
@@ -66,8 +62,8 @@ pub const EYE: Vector = [-0.46, -0.60, 0.655];
 pub fn quarter_away(mesh: &Mesh) -> impl Fn(Vector) -> bool {
     let bound = |axis: usize| {
         let along = mesh.nodes.iter().map(|node| node[axis]);
-        let (low, high) = (along.clone().min().unwrap_or(0), along.max().unwrap_or(0));
-        f64::from(low + high) / 2.0 / STEPS
+        let (low, high) = (along.clone().reduce(f64::min), along.reduce(f64::max));
+        (low.unwrap_or(0.0) + high.unwrap_or(0.0)) / 2.0
     };
     let [x, y] = [bound(0), bound(1)];
     move |at| {

@@ -1,6 +1,6 @@
 //! Legacy VTK, ASCII, an unstructured grid. Nodes are numbered from 0.
 
-use crate::text::{coordinates, element, place, whole};
+use crate::text::{element, point, shortest, whole};
 use crate::Mesh;
 use std::fmt::Write;
 
@@ -14,7 +14,7 @@ pub fn write(mesh: &Mesh) -> String {
     let (nodes, elements) = (mesh.nodes.len(), mesh.elements.len());
     let mut text = format!("{HEAD}POINTS {nodes} double\n");
     for &node in &mesh.nodes {
-        text += &coordinates(node, " ");
+        text += &node.map(shortest).join(" ");
         text.push('\n');
     }
     writeln!(text, "CELLS {elements} {}", 5 * elements).unwrap();
@@ -37,7 +37,7 @@ pub fn read(text: &str) -> Option<Mesh> {
     };
     let mut mesh = Mesh::default();
     for _ in 0..count(lines.next(), "POINTS")? {
-        mesh.nodes.push(place(&lines.next()?)?);
+        mesh.nodes.push(point(&lines.next()?)?);
     }
     let elements = count(lines.next(), "CELLS")?;
     for _ in 0..elements {

@@ -1,9 +1,10 @@
 //! The tool itself: what it writes, what it prints, and how it ends.
-use mesh::{abaqus, block, gmsh, vtk};
+use mesh::{abaqus, block, gmsh, vtk, Mesh, CUBES};
 use reference::block::Block;
-use reference::blockfile::write;
+use reference::blockfile::{fill_block, write};
+use std::collections::BTreeSet;
 use std::fs;
-use std::path::PathBuf;
+use std::path::{Path, PathBuf};
 use std::process::Command;
 
 /// A fresh folder for one test.
@@ -15,9 +16,15 @@ fn folder(name: &str) -> PathBuf {
 }
 
 /// Runs the tool in a folder: what it printed, and its exit code.
-fn run(folder: &PathBuf, arguments: &[&str]) -> (String, Option<i32>) {
+fn run(folder: &Path, arguments: &[&str]) -> (String, Option<i32>) {
     let output = Command::new(env!("CARGO_BIN_EXE_mesh")).args(arguments).current_dir(folder).output().unwrap();
     (String::from_utf8(output.stdout).unwrap(), output.status.code())
+}
+
+/// The meshes of the three files that the tool wrote as `out`.
+fn meshes(folder: &Path) -> [Mesh; 3] {
+    let text = |name: &str| fs::read_to_string(folder.join(name)).unwrap();
+    [vtk::read(&text("out.vtk")), gmsh::read(&text("out.msh")), abaqus::read(&text("out.inp"))].map(Option::unwrap)
 }
 
 #[test]
@@ -25,11 +32,47 @@ fn writes_three_files_of_one_mesh() {
     let folder = folder("three");
     fs::write(folder.join("given"), write(&Block::given_case()).unwrap()).unwrap();
     assert_eq!(run(&folder, &["given", "out"]), ("15 nodes, 24 tetrahedra\n".to_string(), Some(0)));
-    let text = |name: &str| fs::read_to_string(folder.join(name)).unwrap();
-    let mesh = block::mesh_of_file(&fs::read(folder.join("given")).unwrap()).unwrap();
-    assert_eq!(vtk::read(&text("out.vtk")), Some(mesh.clone()));
-    assert_eq!(gmsh::read(&text("out.msh")), Some(mesh.clone()));
-    assert_eq!(abaqus::read(&text("out.inp")), Some(mesh));
+    let mesh = block::mesh_of_file(&fs::read(folder.join("given")).unwrap(), CUBES).unwrap();
+    for read in meshes(&folder) {
+        assert_eq!(read, mesh);
+    }
+}
+
+/// With a unit all three files hold, bit for bit, what the library answers for the ids of the rows.
+#[test]
+fn writes_millimetres() {
+    let folder = folder("millimetres");
+    let given = Block::given_case();
+    fs::write(folder.join("given"), write(&given).unwrap()).unwrap();
+    let tables = fill_block(&given);
+    let ids = BTreeSet::from_iter(tables.rows);
+    for unit in ["0.1", "0.00390625", "9.5367431640625e-7", "16"] {
+        assert_eq!(run(&folder, &["--unit", unit, "given", "out"]), ("15 nodes, 24 tetrahedra\n".to_string(), Some(0)));
+        let place = |&id| yakuemi::place_mm(given.sizes, &given.cuts, &tables.state, id, unit.parse().unwrap());
+        let answers: Vec<[u64; 3]> = ids.iter().map(|id| place(id).unwrap().map(f64::to_bits)).collect();
+        for mesh in meshes(&folder) {
+            let written: Vec<[u64; 3]> = mesh.nodes.iter().map(|node| node.map(f64::to_bits)).collect();
+            assert_eq!(written, answers, "{unit}");
+        }
+    }
+}
+
+/// The corners of document 01's first row, for cubes with a side of 51.2 mm: 384 times the double that is nearest to 0.1 is no longer
+/// the double that is nearest to 38.4.
+#[test]
+fn writes_millimetres_in_words() {
+    let folder = folder("words");
+    fs::write(folder.join("given"), write(&Block::given_case()).unwrap()).unwrap();
+    assert_eq!(run(&folder, &["--unit", "0.1", "given", "out"]).1, Some(0));
+    let near = 38.400000000000006;
+    for mesh in meshes(&folder) {
+        let corners = mesh.elements[0].map(|node| mesh.nodes[node]);
+        assert_eq!(corners, [[51.2, 51.2, 51.2], [51.2, 51.2, 25.6], [64.0, near, near], [near, near, near]]);
+    }
+    let holds = |name: &str, line: &str| fs::read_to_string(folder.join(name)).unwrap().contains(line);
+    assert!(holds("out.vtk", "POINTS 15 double\n51.2 51.2 51.2\n"));
+    assert!(holds("out.msh", "$Nodes\n15\n1 51.2 51.2 51.2\n"));
+    assert!(holds("out.inp", "*NODE, NSET=NALL\n1, 51.2, 51.2, 51.2\n"));
 }
 
 #[test]
@@ -60,6 +103,52 @@ fn says_why_a_block_is_refused_and_writes_nothing() {
     }
     assert_eq!(run(&folder, &["no such file", "out"]).1, Some(2));
     assert_eq!(run(&folder, &["file"]).1, Some(2));
+    assert_eq!(fs::read_dir(&folder).unwrap().count(), 1);
+}
+
+/// Units that the library refuses, also for a block without rows (document 01's P2). What is wrong with the block comes first.
+#[test]
+fn says_that_a_unit_is_refused_and_writes_nothing() {
+    let folder = folder("unit");
+    let given = Block::given_case();
+    let mut empty = given.clone();
+    empty.cuts[91] = 63;
+    let mut gap = given.clone();
+    gap.cuts[91] = 0;
+    for (block, line) in [(&given, "refused 13 0\n"), (&empty, "refused 13 0\n"), (&gap, "refused 6 91\n")] {
+        fs::write(folder.join("file"), write(block).unwrap()).unwrap();
+        for unit in ["0", "-0.0", "-0.1", "9.536743164062499e-7", "16.000000000000004", "1e-400", "1e400", "inf", "-inf", "nan"] {
+            assert_eq!(run(&folder, &["--unit", unit, "file", "out"]), (line.to_string(), Some(1)), "{unit}");
+        }
+    }
+    assert_eq!(fs::read_dir(&folder).unwrap().count(), 1);
+    fs::write(folder.join("file"), write(&empty).unwrap()).unwrap();
+    assert_eq!(run(&folder, &["--unit", "0.1", "file", "out"]), ("0 nodes, 0 tetrahedra\n".to_string(), Some(0)));
+    assert_eq!(fs::read_dir(&folder).unwrap().count(), 4);
+}
+
+#[test]
+fn says_how_it_is_used_and_writes_nothing() {
+    let folder = folder("usage");
+    fs::write(folder.join("file"), write(&Block::given_case()).unwrap()).unwrap();
+    let wrong: [&[&str]; 13] = [
+        &[],
+        &["file"],
+        &["file", "out", "more"],
+        &["--unit"],
+        &["--unit", "0.1"],
+        &["--unit", "0.1", "file"],
+        &["--unit", "0.1", "file", "out", "more"],
+        &["--unit", "0.1", "-file", "out"],
+        &["--unit", "", "file", "out"],
+        &["--unit", "0,1", "file", "out"],
+        &["--unit", "0.1mm", "file", "out"],
+        &["--unit", "1/512", "file", "out"],
+        &["file", "out", "--unit", "0.1"],
+    ];
+    for arguments in wrong {
+        assert_eq!(run(&folder, arguments), (String::new(), Some(2)), "{arguments:?}");
+    }
     assert_eq!(fs::read_dir(&folder).unwrap().count(), 1);
 }
 

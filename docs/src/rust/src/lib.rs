@@ -3,7 +3,7 @@
 //! A point of rubber in the middle of 2 by 2 by 2 cubes, with the skin halfway along its fourteen edges:
 //!
 //! ```
-//! use yakuemi::{fill, measures, place, Refusal};
+//! use yakuemi::{fill, measures, place, place_mm, Refusal};
 //!
 //! let sizes = [2, 2, 2];
 //! let n = measures(sizes)?.points as usize;
@@ -24,6 +24,10 @@
 //! assert_eq!((filling.rows, filling.moved), (24, 0));
 //! assert_eq!(rows[..4], [13, 65, 235, 227]);
 //! assert_eq!(place(sizes, &cuts, &state, 65)?, [512, 512, 256]);
+//!
+//! // in millimetres, for cubes with a side of 2 mm; a unit of zero is refused
+//! assert_eq!(place_mm(sizes, &cuts, &state, 65, 2.0 / 512.0)?, [2.0, 2.0, 1.0]);
+//! assert_eq!(place_mm(sizes, &cuts, &state, 65, 0.0), Err(Refusal::Unit));
 //!
 //! cuts[91] = 0;
 //! let refusal = fill(sizes, &samples, &cuts, &mut state, &mut rows).unwrap_err();
@@ -67,6 +71,23 @@ pub mod raw {
         pub z: u32,
     }
 
+    /// A point in millimetres.
+    #[repr(C)]
+    #[derive(Clone, Copy, Debug, PartialEq)]
+    pub struct Metric {
+        pub x: f64,
+        pub y: f64,
+        pub z: f64,
+    }
+
+    /// The answer of `yakuemi_place_mm`.
+    #[repr(C)]
+    #[derive(Clone, Copy, Debug, PartialEq)]
+    pub struct PlacedMm {
+        pub number: u32,
+        pub point: Metric,
+    }
+
     /// The answer of `yakuemi_read`.
     #[repr(C)]
     #[derive(Clone, Copy, Debug, PartialEq, Eq)]
@@ -79,7 +100,7 @@ pub mod raw {
     }
 
     mod c {
-        use super::{Filled, Measures, Placed, ReadFile};
+        use super::{Filled, Measures, Placed, PlacedMm, ReadFile};
 
         extern "C" {
             pub fn yakuemi_measures(nx: u32, ny: u32, nz: u32) -> Measures;
@@ -108,6 +129,18 @@ pub mod raw {
                 state_len: usize,
                 id: u32,
             ) -> Placed;
+            #[allow(clippy::too_many_arguments)]
+            pub fn yakuemi_place_mm(
+                nx: u32,
+                ny: u32,
+                nz: u32,
+                cuts: *const u8,
+                cuts_len: usize,
+                state: *const u8,
+                state_len: usize,
+                id: u32,
+                unit: f64,
+            ) -> PlacedMm;
             pub fn yakuemi_read(
                 bytes: *const u8,
                 bytes_len: usize,
@@ -150,6 +183,12 @@ pub mod raw {
         unsafe { c::yakuemi_place(nx, ny, nz, cuts.as_ptr(), cuts.len(), state.as_ptr(), state.len(), id) }
     }
 
+    /// The place of an id in millimetres.
+    pub fn place_mm(sizes: [u32; 3], cuts: &[u8], state: &[u8], id: u32, unit: f64) -> PlacedMm {
+        let [nx, ny, nz] = sizes;
+        unsafe { c::yakuemi_place_mm(nx, ny, nz, cuts.as_ptr(), cuts.len(), state.as_ptr(), state.len(), id, unit) }
+    }
+
     /// Reading a block file, into tables that the caller lends.
     pub fn read(bytes: &[u8], samples: &mut [i16], cuts: &mut [u8]) -> ReadFile {
         unsafe {
@@ -165,7 +204,7 @@ pub mod raw {
     }
 }
 
-/// Why a call was refused, with the numbers of document 01.
+/// Why a call was refused, with the numbers of documents 01 and 02.
 #[derive(Clone, Copy, Debug, PartialEq, Eq)]
 pub enum Refusal {
     /// 1: a size outside 1 to 64.
@@ -192,12 +231,14 @@ pub enum Refusal {
     File,
     /// 12: a lent table is too short for the block of the file.
     Room,
+    /// 13: the unit is not a number from 1/1048576 to 16.
+    Unit,
     /// A number that the called function does not give.
     Other(u32),
 }
 
 impl Refusal {
-    /// The number of document 01.
+    /// The number of documents 01 and 02.
     pub fn number(self) -> u32 {
         match self {
             Refusal::Size => 1,
@@ -212,6 +253,7 @@ impl Refusal {
             Refusal::Table { .. } => 10,
             Refusal::File => 11,
             Refusal::Room => 12,
+            Refusal::Unit => 13,
             Refusal::Other(number) => number,
         }
     }
@@ -288,17 +330,36 @@ pub fn fill(sizes: [u32; 3], samples: &[i16], cuts: &[u8], state: &mut [u8], row
     }
 }
 
-/// The place of an id of a filled block, in 256ths of half a cube.
+/// The place of an id of a filled block, in 512ths of a cube's side.
 pub fn place(sizes: [u32; 3], cuts: &[u8], state: &[u8], id: u32) -> Result<[u32; 3], Refusal> {
     let p = raw::place(sizes, cuts, state, id);
     match p.number {
         0 => Ok([p.x, p.y, p.z]),
-        1 => Err(Refusal::Size),
-        3 => Err(Refusal::Cuts),
-        4 => Err(Refusal::State),
-        8 => Err(Refusal::Corner),
-        9 => Err(Refusal::Code),
-        n => Err(Refusal::Other(n)),
+        n => Err(place_refusal(n)),
+    }
+}
+
+/// The place of an id of a filled block in millimetres: each number of [`place`] times the unit, the millimetres per 512th of a cube's
+/// side, from 1/1048576 to 16. Cubes with a side of s millimetres have the unit `s / 512.0`. Where the unit is a power of two the
+/// products are exact, which is proved; elsewhere each is rounded once.
+pub fn place_mm(sizes: [u32; 3], cuts: &[u8], state: &[u8], id: u32, unit: f64) -> Result<[f64; 3], Refusal> {
+    let p = raw::place_mm(sizes, cuts, state, id, unit);
+    match p.number {
+        0 => Ok([p.point.x, p.point.y, p.point.z]),
+        13 => Err(Refusal::Unit),
+        n => Err(place_refusal(n)),
+    }
+}
+
+/// The refusals that the place of an id has in steps and in millimetres alike.
+fn place_refusal(number: u32) -> Refusal {
+    match number {
+        1 => Refusal::Size,
+        3 => Refusal::Cuts,
+        4 => Refusal::State,
+        8 => Refusal::Corner,
+        9 => Refusal::Code,
+        n => Refusal::Other(n),
     }
 }
 
