@@ -1,11 +1,11 @@
 -- The place call answers places in the block: along each axis from 0 to 512 times the size, and so at most 32,768; a refusal's are zeros.
 -- Assumes nothing but that cut bytes are bytes, which their type says in code.
-use Prim.Native.Nat.{ℕ, _+_, _*_, _-_, _/_, _%_, _≤_, _<_}
+use Prim.Native.Nat.{ℕ, _*_, _-_, _/_, _%_, _≤_, _<_}
 use native.Mathlib.Omega.{arith}
-use mathlib.Core.Path.{_≡_, refl, sym, ap, _∙_}
+use mathlib.Core.Path.{_≡_, refl}
 use mathlib.Core.Bool.{Bool, true, false, not, _&&_}
 use mathlib.Core.List.{List}
-use lib.IntN.{ℤ, pos, natAbs}
+use lib.IntN.{ℤ, natAbs}
 use lib.ListN.{length, getD}
 use lib.Dec.{leb, ltb, eqb, leb→le}
 use borrow.Author.Tests.{ltb-true, ltb-false, leb-false, eqb-true}
@@ -15,16 +15,20 @@ use Rattle.lattice.specs.declared.Sizes.{Sizes}
 use Rattle.lattice.specs.declared.Near.{Near}
 use Rattle.lattice.specs.declared.Near.the-variants.{At, Nothing}
 use Rattle.lattice.specs.Axis.{Axis, along-x, along-y, along-z, xyz}
-use Rattle.lattice.specs.Counts.{size, largest, sizesFit, points}
+use Rattle.lattice.specs.Counts.{size, sizesFit, points}
 use Rattle.lattice.specs.Direction.{Code, asStart}
 use Rattle.lattice.specs.Edge.{neighbour, byteAt, edgeByte}
 use Rattle.lattice.proofs.Sized.{fits-sized, size-high}
 use Rattle.moving.specs.Reading.{isMove}
 use Rattle.moving.specs.Block.{Bytes}
-use Rattle.geometry.specs.Place.{Place, rest, cutPlace, movedPlace, pointPlace, placeOf}
-use Rattle.geometry.proofs.InBlock.{Steps, rest-in, cut-in, moved-in}
+use Rattle.geometry.specs.Place.{rest, cutPlace, movedPlace, pointPlace, placeOf}
+use Rattle.geometry.proofs.InBlock.{cubeSteps, Steps, rest-in, cut-in, moved-in}
 use Rattle.filling.specs.declared.Placed.{Placed}
 use Rattle.filling.specs.Located.{placed, unplaced, believable, standsTo, stands, idFault, locate}
+
+-- no coordinate of any block is further from 0: 512 steps for each of 64 cubes
+abbrev pub mostSteps : ℕ
+mostSteps = 32768
 
 -- the coordinate of an answer along an axis
 abbrev pub coordinate : Placed → Axis → ℕ
@@ -82,21 +86,21 @@ module _ (s : Sizes) (cuts state : List ℕ) (bytes : Bytes cuts) where
       go false b false p false t f = absurd (omega (arith, f))
       go false b false p true t f = stands-in (id - n) (omega (arith, leb-false (8 * n) id p, ltb-false id n b)) t a
 
-  pub located-in : (id : ℕ) (a : Axis) → coordinate (locate s cuts state id) a ≤ 512 * size s a
+  pub located-in : (id : ℕ) (a : Axis) → coordinate (locate s cuts state id) a ≤ cubeSteps * size s a
   unfolding locate
   located-in id =
       go (sizesFit s) (eqb (length cuts) (7 * points s)) (eqb (length state) (points s)) (eqb (idFault s cuts state id) 0) refl
     where
-      zeros : (n : ℕ) (a : Axis) → coordinate (unplaced n) a ≤ 512 * size s a
+      zeros : (n : ℕ) (a : Axis) → coordinate (unplaced n) a ≤ cubeSteps * size s a
       zeros n along-x = omega arith
       zeros n along-y = omega arith
       zeros n along-z = omega arith
 
-      steps : (z : ℤ) (n : ℕ) → Steps n z → natAbs z ≤ 512 * n
+      steps : (z : ℤ) (n : ℕ) → Steps n z → natAbs z ≤ cubeSteps * n
       steps z n t = rw (t .is) (t .most)
 
       inside : ((a : Axis) → Steps (size s a) (placeOf s cuts state id a)) → (a : Axis)
-          → coordinate (placed (placeOf s cuts state id)) a ≤ 512 * size s a
+          → coordinate (placed (placeOf s cuts state id)) a ≤ cubeSteps * size s a
       inside t along-x = steps _ _ (t along-x)
       inside t along-y = steps _ _ (t along-y)
       inside t along-z = steps _ _ (t along-z)
@@ -109,7 +113,7 @@ module _ (s : Sizes) (cuts state : List ℕ) (bytes : Bytes cuts) where
           else if i then placed (placeOf s cuts state id)
           else unplaced (idFault s cuts state id))
           a
-          ≤ 512 * size s a
+          ≤ cubeSteps * size s a
       go false c t i e = zeros 1
       go true false t i e = zeros 3
       go true true false i e = zeros 4
@@ -117,14 +121,14 @@ module _ (s : Sizes) (cuts state : List ℕ) (bytes : Bytes cuts) where
       go true true true false e = zeros (idFault s cuts state id)
 
   -- whatever the sizes: those outside 1 to 64 are refused
-  pub located-small : (id : ℕ) (a : Axis) → coordinate (locate s cuts state id) a ≤ 32768
+  pub located-small : (id : ℕ) (a : Axis) → coordinate (locate s cuts state id) a ≤ mostSteps
   located-small id a = go (sizesFit s) refl
     where
-      go : (f : Bool) → sizesFit s ≡ f → coordinate (locate s cuts state id) a ≤ 32768
+      go : (f : Bool) → sizesFit s ≡ f → coordinate (locate s cuts state id) a ≤ mostSteps
       go true e = omega (arith, located-in id a, size-high s (fits-sized s e) a)
       go false e = unfold locate in rw e (zero a)
         where
-          zero : (a : Axis) → coordinate (unplaced 1) a ≤ 32768
+          zero : (a : Axis) → coordinate (unplaced 1) a ≤ mostSteps
           zero along-x = omega arith
           zero along-y = omega arith
           zero along-z = omega arith

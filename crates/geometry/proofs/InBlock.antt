@@ -8,7 +8,7 @@
 use Prim.Native.Nat.{ℕ, _+_, _*_, _-_, _≤_, _<_}
 use native.Mathlib.Omega.{arith}
 use native.Mathlib.Nat.{mul-le-mul, mul-le-mul-right}
-use mathlib.Core.Path.{_≡_, refl, sym, ap, _∙_, subst}
+use mathlib.Core.Path.{_≡_, refl, sym}
 use mathlib.Core.Logic.{_⊎_, inl, inr}
 use mathlib.Core.Bool.{Bool, true, false}
 use mathlib.Core.List.{List}
@@ -29,11 +29,15 @@ use Rattle.lattice.proofs.Codes.{one-way, direction-lt, start-step}
 use Rattle.lattice.proofs.Edge.{far, doubled-le, neighbour-lt, neighbour-back}
 use Rattle.geometry.specs.Place.{latticePlace, rest, signed, cutPlace, movedPlace}
 
+-- a cube's side
+abbrev pub cubeSteps : ℕ
+cubeSteps = 512
+
 -- a coordinate in a block of n cubes
 pub record Steps (n : ℕ) (z : ℤ) : Type 0 where
   pub steps : ℕ
   pub is : z ≡ pos steps
-  pub most : steps ≤ 512 * n
+  pub most : steps ≤ cubeSteps * n
 
 -- t 256ths of the way from the doubled coordinate x to y
 between : (n x y up down t : ℕ) → t ≤ 256 → (up ≡ 0) ⊎ (down ≡ 0) → y + down ≡ x + up → x ≤ 2 * n → y ≤ 2 * n
@@ -49,7 +53,7 @@ between n x y up down t h way leads lx ly =
     low (inl z) = mul-le-mul h (omega arith)
     low (inr z) = rw z (omega arith)
 
-    high : (up ≡ 0) ⊎ (down ≡ 0) → 256 * x + t * up ≤ 512 * n
+    high : (up ≡ 0) ⊎ (down ≡ 0) → 256 * x + t * up ≤ cubeSteps * n
     high (inl z) = rw z (omega arith)
     high (inr z) = omega (arith, mul-le-mul-right up h)
 

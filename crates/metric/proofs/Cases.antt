@@ -5,15 +5,11 @@
 -- unit-refusal          then 13, where the unit does not fit
 -- in-steps              else the three products
 -- answered              an answer 0 is the third case
-use Prim.Native.Nat.{ℕ}
-use mathlib.Core.Path.{_≡_, refl, sym, ap, _∙_}
-use mathlib.Core.Bool.{Bool, true, false, not}
-use lib.Dec.{eqb}
+use mathlib.Core.Path.{_≡_, refl}
+use mathlib.Core.Bool.{true, false}
 use lib.Ieee.{Float, le}
-use borrow.Author.Tests.{eq-eqb, ne-eqb, eqb-true}
-use Rattle.basics.specs.Choice.{if_then_else_}
+use borrow.Author.Tests.{eq-eqb, ne-eqb}
 use Rattle.filling.specs.declared.Placed.{Placed}
-use Rattle.metric.specs.declared.PlacedMm.{PlacedMm}
 use Rattle.metric.specs.Millimetres.{least, most, unitFits, metric, unplacedMm, inMillimetres}
 
 module _ (unit : Float) where

@@ -7,8 +7,8 @@
 -- finite-product               so it is finite
 use Prim.Native.Nat.{ℕ, zero, suc, _+_, _*_, _^_, _≤_, _<_}
 use native.Mathlib.Omega.{arith}
-use native.Mathlib.Nat.{mul-pos, mul-mul-mul-comm, mul-assoc, mul-right-comm, lt-of-le-of-lt, lt-of-lt-of-le, zero-mul}
-use mathlib.Core.Path.{_≡_, refl, sym, ap, _∙_, subst}
+use native.Mathlib.Nat.{mul-pos, mul-mul-mul-comm, mul-assoc, lt-of-le-of-lt, lt-of-lt-of-le}
+use mathlib.Core.Path.{_≡_, sym, ap, _∙_, subst}
 use mathlib.Core.Bool.{true, false, true≢false}
 use lib.IntN.{pos}
 use lib.Dec.{T, lit≤, lit<}
@@ -21,6 +21,7 @@ use lib.Ieee.Back.{round-whole}
 use lib.Ieee.Order.{le-of-values}
 use lib.Ieee.Positive.{num, den, den-pos, positive, positive-of-value, positive-finite, own-value, between, mul-mono}
 use Rattle.basics.proofs.Test.{&&-l, &&-r, true-T}
+use Rattle.filling.proofs.InBlock.{mostSteps}
 use Rattle.metric.specs.Millimetres.{least, most, unitFits, scaled}
 use Rattle.metric.proofs.Unit.{InRange, fits-range}
 
@@ -49,11 +50,11 @@ least-positive : T (positive (scaled least 1))
 unfolding scaled mul ofInt
 least-positive = tt
 
-most-positive : T (positive (scaled most 32768))
+most-positive : T (positive (scaled most mostSteps))
 unfolding scaled mul ofInt
 most-positive = tt
 
-module _ (n : ℕ) (small : n ≤ 32768) (unit : Float) where
+module _ (n : ℕ) (small : n ≤ mostSteps) (unit : Float) where
   -- n / 1 times b / d
   scaled-is : (b d : ℕ) → 0 < d → HasValue unit false b d → scaled unit n ≡ round binary64 false (n * b) (1 * d)
   unfolding scaled
@@ -77,7 +78,7 @@ module _ (n : ℕ) (small : n ≤ 32768) (unit : Float) where
 abbrev steps : ℕ → Float
 steps n = ofInt binary64 (pos n)
 
-module _ (n : ℕ) (high : n ≤ 32768) where
+module _ (n : ℕ) (high : n ≤ mostSteps) where
   own : HasValue (steps n) false n 1
   own = whole-value n (omega arith)
 
@@ -102,23 +103,23 @@ module _ (unit : Float) (fits : unitFits unit ≡ true) where
       nothing = round-same binary64 false (0 * num unit) (1 * den unit) 0 1 (omega (arith, den-pos unit)) (lit< tt) (omega arith)
 
   -- from 1 step on, the product lies between the least and the most that there are
-  module _ (n : ℕ) (low : 1 ≤ n) (high : n ≤ 32768) where
+  module _ (n : ℕ) (low : 1 ≤ n) (high : n ≤ mostSteps) where
     not-below : T (le (scaled least 1) (scaled unit n))
     unfolding unitFits scaled ofInt
     not-below =
         mul-mono binary64 (steps 1) (steps n) least unit tt (steps-above n high low) tt (range .above) (steps-le n high 1 low)
         (&&-l (le least unit) _ (true-T _ fits))
 
-    not-above : T (le (scaled unit n) (scaled most 32768))
+    not-above : T (le (scaled unit n) (scaled most mostSteps))
     unfolding unitFits scaled ofInt
     not-above =
-        mul-mono binary64 (steps n) (steps 32768) unit most (steps-above n high low) tt (range .above) tt
-        (steps-le 32768 (lit≤ tt) n high) (&&-r (le least unit) _ (true-T _ fits))
+        mul-mono binary64 (steps n) (steps mostSteps) unit most (steps-above n high low) tt (range .above) tt
+        (steps-le mostSteps (lit≤ tt) n high) (&&-r (le least unit) _ (true-T _ fits))
 
     product-positive : T (positive (scaled unit n))
-    product-positive = between (scaled least 1) (scaled unit n) (scaled most 32768) least-positive most-positive not-below not-above
+    product-positive = between (scaled least 1) (scaled unit n) (scaled most mostSteps) least-positive most-positive not-below not-above
 
-  pub finite-product : (n : ℕ) → n ≤ 32768 → T (finite (scaled unit n))
+  pub finite-product : (n : ℕ) → n ≤ mostSteps → T (finite (scaled unit n))
   finite-product zero h = of-value (scaled unit 0) no-steps
     where
       of-value : (x : Float) → HasValue x false 0 1 → T (finite x)

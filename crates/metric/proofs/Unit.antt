@@ -1,15 +1,15 @@
 -- The range of the unit, as fractions: a unit fits exactly if it is finite, above zero, and num / den of it lies from 1/1,048,576 to 16.
 -- So a power of two from 2 ^ -20 to 2 ^ 4 fits. Assumes nothing.
-use Prim.Native.Nat.{ℕ, _+_, _*_, _^_, _≤_, _<_}
+use Prim.Native.Nat.{ℕ, _*_, _^_, _≤_}
 use native.Mathlib.Omega.{arith}
 use native.Mathlib.Nat.{mul-le-mul-right}
-use mathlib.Core.Path.{_≡_, refl, sym, ap, _∙_}
+use mathlib.Core.Path.{_≡_}
 use mathlib.Core.Bool.{true, false}
 use lib.Dec.{T}
 use lib.Pow.{pow-pos, pow-mono}
 use lib.Ieee.{Float, le}
 use lib.Ieee.Exact.{HasValue}
-use lib.Ieee.Positive.{num, den, den-pos, positive, between, le→cross, cross→le, positive-of-value, value→cross}
+use lib.Ieee.Positive.{num, den, positive, between, le→cross, cross→le, positive-of-value, value→cross}
 use Rattle.basics.proofs.Test.{&&-l, &&-r, &&-i, T-true, true-T}
 use Rattle.metric.specs.Millimetres.{least, most, unitFits}
 

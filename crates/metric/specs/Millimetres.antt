@@ -1,7 +1,7 @@
 -- Document 02, F-1, "Places in millimetres": what the call answers, for every input. Floats, and what an operation on them gives, are the
 -- logic's own account of IEEE 754 (`lib.Ieee`): `fin s m e` is m times 2 ^ e, negative where s is true.
 use Prim.Native.Nat.{ℕ}
-use mathlib.Core.Bool.{Bool, true, false, not, _&&_}
+use mathlib.Core.Bool.{Bool, false, not, _&&_}
 use mathlib.Core.List.{List}
 use lib.IntN.{pos, negsuc}
 use lib.Dec.{eqb}

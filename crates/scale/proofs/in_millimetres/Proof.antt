@@ -1,9 +1,8 @@
 -- The place call's refusals, then 13, then the point. Assumes nothing.
-use mathlib.Core.Path.{_≡_, sym, ap, _∙_}
+use mathlib.Core.Path.{sym, ap, _∙_}
 use borrow.Author.Needs.{needs}
 use borrow.Author.Tests.{not-true, not-false}
 use Rattle.metric.specs.declared.Metric.{Metric}
-use Rattle.metric.specs.declared.PlacedMm.{PlacedMm}
 use Rattle.metric.proofs.Cases.{own-refusal, unit-refusal, in-steps}
 use Rattle.scale.proofs.in_millimetres.Statement.{statement}
 use Rattle.scale.proofs.in_millimetres.Tie as tie
