@@ -4,7 +4,6 @@
 -- own-refusal           a refusal of the place call is handed on
 -- unit-refusal          then 13, where the unit does not fit
 -- in-steps              else the three products
--- answered              an answer 0 is the third case
 use mathlib.Core.Path.{_≡_, refl}
 use mathlib.Core.Bool.{true, false}
 use lib.Ieee.{Float, le}

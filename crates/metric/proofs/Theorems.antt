@@ -37,8 +37,9 @@ module _ (s : Sizes) (cuts state : List ℕ) (bytes : Bytes cuts) (id : ℕ) (un
   abbrev pub answer : PlacedMm
   answer = locateMm s cuts state id unit
 
-  -- The unit is a power of two from 2 ^ -20 to 2 ^ 4: 2 ^ k / 2 ^ 20. Then every place that the place call answers has an answer
-  -- in millimetres too, and each coordinate, as a fraction, is the place's whole number times the unit.
+  -- The unit is a power of two from 2 ^ -20 to 2 ^ 4: 2 ^ k / 2 ^ 20 (`power-value` in `Unit` has one for each k). Then every place that
+  -- the place call answers has an answer in millimetres too, and each coordinate, as a fraction, is the place's whole number times
+  -- the unit.
   pub exact : (k : ℕ) → k ≤ 24 → HasValue unit false (2 ^ k) (2 ^ 20) → place .number ≡ 0
       → (answer .number ≡ 0)
       × HasValue (answer .point .x) false (place .x * 2 ^ k) (2 ^ 20)

@@ -2,12 +2,13 @@
 -- So a power of two from 2 ^ -20 to 2 ^ 4 fits. Assumes nothing.
 use Prim.Native.Nat.{ℕ, _*_, _^_, _≤_}
 use native.Mathlib.Omega.{arith}
-use native.Mathlib.Nat.{mul-le-mul-right}
-use mathlib.Core.Path.{_≡_}
+use native.Mathlib.Nat.{one-mul, mul-le-mul-right}
+use mathlib.Core.Path.{_≡_, refl, ap, _∙_}
 use mathlib.Core.Bool.{true, false}
 use lib.Dec.{T}
 use lib.Pow.{pow-pos, pow-mono}
-use lib.Ieee.{Float, le}
+use lib.Ieee.{Float, fin, down, minus, le}
+use lib.Ieee.Digits.{minus-val}
 use lib.Ieee.Exact.{HasValue}
 use lib.Ieee.Positive.{num, den, positive, between, le→cross, cross→le, positive-of-value, value→cross}
 use Rattle.basics.proofs.Test.{&&-l, &&-r, &&-i, T-true, true-T}
@@ -17,6 +18,10 @@ pub record InRange (unit : Float) : Type 0 where
   pub above : T (positive unit)
   pub low : den unit ≤ num unit * 1048576
   pub high : num unit ≤ 16 * den unit
+
+-- 2 to the power k - 20
+pub power-value : (k : ℕ) → HasValue (fin false 1 (minus k 20)) false (2 ^ k) (2 ^ 20)
+power-value k = (refl, minus-val 1 k 20 ∙ ap (λ (n : ℕ). n * down (minus k 20)) (one-mul (2 ^ k)))
 
 module _ (unit : Float) where
   pub fits-range : unitFits unit ≡ true → InRange unit

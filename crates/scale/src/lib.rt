@@ -6,12 +6,17 @@ use metric::PlacedMm;
 ghost use mathlib.Core.Path.{_≡_};
 ghost use Rattle.metric.specs.Millimetres.{unitFits, scaled, metric, unplacedMm, inMillimetres};
 
-// Whether the unit is a number from 2^-20 to 2^4. A NaN fails both comparisons.
+// 1/1,048,576 and 16 millimetres per step: 2^-20, all its decimals written out, and 2^4.
+const LEAST: f64 = 0.00000095367431640625;
+
+const MOST: f64 = 16.0;
+
+// Whether the unit is a number from the least to the most. A NaN fails both comparisons.
 fn unit_fits(unit: f64) -> bool
     ensures { λ r. ⌜ r ≡ unitFits unit ⌝ }
 {
-    if 0.00000095367431640625 <= unit {
-        return unit <= 16.0;
+    if LEAST <= unit {
+        return unit <= MOST;
     }
     false
 }

@@ -1,5 +1,5 @@
 // The public calls of Yakuemi. None of them has a `requires`: whatever is handed in is answered,
-// by a number of document 01.
+// by a number of documents 01 and 02.
 mod fill;
 mod measures;
 mod place;

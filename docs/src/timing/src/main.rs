@@ -1,7 +1,9 @@
-//! Times filling beside the separate software: the same blocks, tables and process, turn and turn about. Tables are lent as the
-//! call before left them; the first call of each is not counted. Prints the best and the middle of the times.
+//! Times filling, and places in millimetres, beside the separate software: the same blocks, tables and process, turn and turn about.
+//! Tables are lent as the call before left them; the first call of each is not counted. Prints the best and the middle of the times.
 use reference::block::Block;
+use reference::blockfile::fill_block;
 use reference::damage::Filling;
+use reference::metric::place_mm;
 use reference::shapes::{air, ribs, sphere};
 use std::time::Instant;
 
@@ -50,8 +52,43 @@ fn compare_on(name: &str, block: &Block) {
     );
 }
 
+/// The place in millimetres of each id that the rows of a block name, for cubes of 2 mm. The sum of all answers is what is compared.
+fn compare_places_of(name: &str, block: &Block) {
+    let (tables, [nx, ny, nz]) = (fill_block(block), block.sizes);
+    let (mut ids, unit) = (tables.rows, 2.0 / 512.0);
+    ids.sort_unstable();
+    ids.dedup();
+    let timed = |place: &dyn Fn(u32) -> f64| {
+        let began = Instant::now();
+        let sum: f64 = ids.iter().map(|&id| place(id)).sum();
+        (began.elapsed().as_secs_f64() * 1000.0, sum)
+    };
+    let (mut ours, mut theirs) = (Vec::new(), Vec::new());
+    for turn in 0..=TURNS {
+        let (a, our_sum) = timed(&|id| {
+            let p = yakuemi::raw::place_mm(block.sizes, &block.cuts, &tables.state, id, unit).point;
+            p.x + p.y + p.z
+        });
+        let (b, their_sum) = timed(&|id| {
+            let p = place_mm(nx, ny, nz, &block.cuts, &tables.state, id, unit).point;
+            p.x + p.y + p.z
+        });
+        assert_eq!(our_sum, their_sum);
+        if turn > 0 {
+            ours.push(a);
+            theirs.push(b);
+        }
+    }
+    let (a, b) = (times(ours), times(theirs));
+    println!(
+        "{name:7} {:9} ids  | library {:7.2} ms best, {:7.2} middle | separate {:7.2} ms best, {:7.2} middle | ratio {:.2}",
+        ids.len(), a.best, a.middle, b.best, b.middle, a.best / b.best
+    );
+}
+
 fn main() {
     compare_on("sphere", &sphere());
     compare_on("air", &air());
     compare_on("ribs", &ribs());
+    compare_places_of("sphere", &sphere());
 }
