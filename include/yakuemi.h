@@ -172,11 +172,12 @@ struct yakuemi_placed_mm {
  * which loses nothing, as 512 is a power of two. Units from 1/1048576 to 16 are taken, both ends too, so cubes with sides from
  * 512/1048576 (about 0.0005) to 8192 millimetres can be had.
  *
- * Answers 0 with the point, for such a unit and every id of the rows of a filled block. The coordinates are finite (proved), and
+ * Answers 0 with the point, for such a unit and every id of the rows of a filled block. The coordinates are finite, and (all this is
+ * proved)
  *
- *   exact      where the unit is a power of two, that is, where the side is a power of two millimetres (4, 2, 1, 0.5, ..): proved
- *   rounded    at every other unit, once, to the nearest double, ties to even: each coordinate is within half an ulp (its last binary
- *              place) of the exact product of the whole number and the unit handed in
+ *   exact      where the unit is a power of two, that is, where the side is a power of two millimetres (4, 2, 1, 0.5, ..)
+ *   rounded    at every other unit, once, to the nearest double, ties to even: each coordinate is within one part in 2^53 of the exact
+ *              product of the whole number and the unit handed in
  *
  * Or, with the point (0, 0, 0), three positive zeros, the first of these that applies: 1, 3, 4, 8, 9, as yakuemi_place has them; 13 if the
  * unit is not a number from 1/1048576 to 16, so also if it is a NaN, an infinity, zero or below.

@@ -4,11 +4,16 @@
 -- own-refusal           a refusal of the place call is handed on
 -- unit-refusal          then 13, where the unit does not fit
 -- in-steps              else the three products
-use mathlib.Core.Path.{_≡_, refl}
-use mathlib.Core.Bool.{true, false}
+-- answered              so an answer 0 has a place, and a unit that fits
+use native.Mathlib.Omega.{arith}
+use mathlib.Core.Path.{_≡_, refl, ap, _∙_}
+use mathlib.Core.Logic.{_⊎_, inl, inr}
+use mathlib.Core.Bool.{Bool, true, false}
 use lib.Ieee.{Float, le}
 use borrow.Author.Tests.{eq-eqb, ne-eqb}
+use Rattle.moving.proofs.Bytes.{same-or}
 use Rattle.filling.specs.declared.Placed.{Placed}
+use Rattle.metric.specs.declared.PlacedMm.{PlacedMm}
 use Rattle.metric.specs.Millimetres.{least, most, unitFits, metric, unplacedMm, inMillimetres}
 
 module _ (unit : Float) where
@@ -33,3 +38,11 @@ module _ (unit : Float) (p : Placed) where
     pub in-steps : unitFits unit ≡ true → record { number = 0; point = metric unit p } ≡ inMillimetres unit p
     unfolding inMillimetres
     in-steps e = rw (eq-eqb _ _ z, e) refl
+
+  pub answered : inMillimetres unit p .number ≡ 0 → (p .number ≡ 0) × (unitFits unit ≡ true)
+  answered e = go (same-or (p .number) 0) (unitFits unit) refl
+    where
+      go : (p .number ≡ 0) ⊎ (p .number ≡ 0 → ⊥) → (b : Bool) → unitFits unit ≡ b → (p .number ≡ 0) × (unitFits unit ≡ true)
+      go (inl z) true f = (z, f)
+      go (inl z) false f = absurd (omega (arith, ap (λ (r : PlacedMm). r .number) (unit-refusal z f) ∙ e))
+      go (inr n) b f = absurd (n (ap (λ (r : PlacedMm). r .number) (own-refusal n) ∙ e))

@@ -56,7 +56,7 @@ most-positive = tt
 
 module _ (n : ℕ) (small : n ≤ mostSteps) (unit : Float) where
   -- n / 1 times b / d
-  scaled-is : (b d : ℕ) → 0 < d → HasValue unit false b d → scaled unit n ≡ round binary64 false (n * b) (1 * d)
+  pub scaled-is : (b d : ℕ) → 0 < d → HasValue unit false b d → scaled unit n ≡ round binary64 false (n * b) (1 * d)
   unfolding scaled
   scaled-is b d D w = product-is binary64 (ofInt binary64 (pos n)) unit n 1 b d (lit< tt) D (whole-value n (omega arith)) w
 
@@ -94,7 +94,7 @@ module _ (unit : Float) (fits : unitFits unit ≡ true) where
   range = fits-range unit fits
 
   -- nothing times a unit is the positive zero
-  no-steps : HasValue (scaled unit 0) false 0 1
+  pub no-steps : HasValue (scaled unit 0) false 0 1
   no-steps =
       let is = scaled-is 0 (lit≤ tt) unit (num unit) (den unit) (den-pos unit) (own-value unit (range .above)) in
       subst (λ (x : Float). HasValue x false 0 1) (sym (is ∙ nothing)) (round-whole binary64 false 0 (lit≤ tt))

@@ -1,2 +1,3 @@
 pub mod Millimetres
+pub mod inner
 pub mod cases

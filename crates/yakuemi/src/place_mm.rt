@@ -9,7 +9,8 @@ ghost use Rattle.yakuemi.specs.Measures.{sizes};
 // turned exactly into a float and multiplied once by the unit, the millimetres per step.
 //
 // Theorems (crates/metric/proofs/Theorems.antt): where the unit is a power of two each product is
-// exact (`exact`), and no coordinate of any answer is a NaN or an infinity (`finite-always`).
+// exact (`exact`); at every unit it is within one part in 2^53 of the exact one (`near`); no
+// coordinate of any answer is a NaN or an infinity (`finite-always`).
 #[no_mangle]
 pub extern "C" fn yakuemi_place_mm(
     nx: u32,

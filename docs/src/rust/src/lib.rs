@@ -341,7 +341,7 @@ pub fn place(sizes: [u32; 3], cuts: &[u8], state: &[u8], id: u32) -> Result<[u32
 
 /// The place of an id of a filled block in millimetres: each number of [`place`] times the unit, the millimetres per 512th of a cube's
 /// side, from 1/1048576 to 16. Cubes with a side of s millimetres have the unit `s / 512.0`. Where the unit is a power of two the
-/// products are exact, which is proved; elsewhere each is rounded once.
+/// products are exact, elsewhere each is rounded once, to within one part in 2^53: both are proved.
 pub fn place_mm(sizes: [u32; 3], cuts: &[u8], state: &[u8], id: u32, unit: f64) -> Result<[f64; 3], Refusal> {
     let p = raw::place_mm(sizes, cuts, state, id, unit);
     match p.number {
