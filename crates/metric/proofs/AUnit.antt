@@ -24,20 +24,22 @@ at x y z = record { number = 0; x = x; y = y; z = z }
 abbrev refused : ℕ → Bits
 refused n = bits n 0 0 0
 
-abbrev asked : Question → Bits
-asked q = inBits (inMillimetres (ofBits binary64 (q .unit)) (q .placed))
+abbrev asked : Placed → ℕ → Bits
+asked p unit = inBits (inMillimetres (ofBits binary64 unit) p)
 
--- 512, 384 and 640 steps at 1, 1/512 and 0.1: 384 times 0.1 lies halfway between two floats and goes to the even one
-unfoldable pub products : List Question
-products =
-    ask (at 512 384 640) 0x3ff0_0000_0000_0000 (bits 0 0x4080_0000_0000_0000 0x4078_0000_0000_0000 0x4084_0000_0000_0000)
-    ∷ ask (at 512 384 640) 0x3f60_0000_0000_0000 (bits 0 0x3ff0_0000_0000_0000 0x3fe8_0000_0000_0000 0x3ff4_0000_0000_0000)
-    ∷ ask (at 512 384 640) 0x3fb9_9999_9999_999a (bits 0 0x4049_9999_9999_999a 0x4043_3333_3333_3334 0x4050_0000_0000_0000)
-    ∷ []
+-- the questions of a list are answered as it says
+abbrev So : List Question → Type 0
+So l = map (λ q. asked (q .placed) (q .unit)) l ≡ map (λ q. q .answer) l
 
-pub products-so : map asked products ≡ map (λ q. q .answer) products
-unfolding ofInt mul le ofBits unitFits scaled metric inMillimetres inBits products
-products-so = refl
+-- 512, 384 and 640 steps at 1/512
+pub at-512th : asked (at 512 384 640) 0x3f60_0000_0000_0000 ≡ bits 0 0x3ff0_0000_0000_0000 0x3fe8_0000_0000_0000 0x3ff4_0000_0000_0000
+unfolding ofInt mul le ofBits unitFits scaled metric inMillimetres inBits
+at-512th = refl
+
+-- and at 0.1, where 384 steps lie halfway between two floats and go to the even one
+pub at-tenth : asked (at 512 384 640) 0x3fb9_9999_9999_999a ≡ bits 0 0x4049_9999_9999_999a 0x4043_3333_3333_3334 0x4050_0000_0000_0000
+unfolding ofInt mul le ofBits unitFits scaled metric inMillimetres inBits
+at-tenth = refl
 
 -- the ends, 2 ^ -20 and 16, with no step, one, and the most that there are
 unfoldable pub ends : List Question
@@ -46,7 +48,7 @@ ends =
     ∷ ask (at 0 1 32768) 0x4030_0000_0000_0000 (bits 0 0 0x4030_0000_0000_0000 0x4120_0000_0000_0000)
     ∷ []
 
-pub ends-so : map asked ends ≡ map (λ q. q .answer) ends
+pub ends-so : So ends
 unfolding ofInt mul le ofBits unitFits scaled metric inMillimetres inBits ends
 ends-so = refl
 
@@ -63,7 +65,7 @@ outside =
     ∷ 0xbff0_0000_0000_0000
     ∷ []
 
-pub outside-so : map (λ u. asked (ask (at 0 1 32768) u (refused 13))) outside ≡ map (λ u. refused 13) outside
+pub outside-so : map (asked (at 0 1 32768)) outside ≡ map (λ u. refused 13) outside
 unfolding ofInt mul le ofBits unitFits scaled metric inMillimetres inBits outside
 outside-so = refl
 
@@ -78,6 +80,6 @@ order =
     ∷ ask (unplaced 4) 0 (refused 4)
     ∷ []
 
-pub order-so : map asked order ≡ map (λ q. q .answer) order
+pub order-so : So order
 unfolding ofInt mul le ofBits unitFits scaled metric inMillimetres inBits order
 order-so = refl
