@@ -24,6 +24,16 @@ pub fn fill(
     }
 }
 
+/// Noise in the cut and the state table of a block: bytes at the limits and beside them, codes and bytes that are none.
+pub fn disturb(random: &mut Random, cuts: &mut [u8], state: &mut [u8]) {
+    for _ in 0..random.below(60) {
+        cuts[random.below(cuts.len())] = random.pick(&[0, 1, 63, 64, 105, 106, 150, 151, 192, 193, 255]);
+    }
+    for _ in 0..random.below(30) {
+        state[random.below(state.len())] = random.pick(&[1, 2, 4, 7, 8, 9, 11, 14, 15, 16, 255]);
+    }
+}
+
 /// Makes a call of both fillings over the same noise: answer, state table and row table are the same. Answers the number.
 pub fn same_filling(call: &Call, seed: u64) -> u32 {
     let ours = call.run(fill, &mut Random::new(seed));

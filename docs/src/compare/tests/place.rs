@@ -41,12 +41,7 @@ fn noise() {
         let n = block.samples.len();
         let mut cuts = block.cuts.clone();
         let mut state = vec![0; n];
-        for _ in 0..random.below(60) {
-            cuts[random.below(7 * n)] = random.pick(&[0, 1, 63, 64, 105, 106, 150, 151, 192, 193, 255]);
-        }
-        for _ in 0..random.below(30) {
-            state[random.below(n)] = random.pick(&[1, 2, 4, 7, 8, 9, 11, 14, 15, 16, 255]);
-        }
+        compare::disturb(&mut random, &mut cuts, &mut state);
         if random.percent(5) {
             cuts.pop();
         }

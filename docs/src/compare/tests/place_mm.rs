@@ -63,12 +63,7 @@ impl Tables {
         let Block { mut sizes, samples, mut cuts } = any_block(random, 3);
         let n = samples.len();
         let mut state = vec![0; n];
-        for _ in 0..random.below(60) {
-            cuts[random.below(7 * n)] = random.pick(&[0, 1, 63, 64, 105, 106, 150, 151, 192, 193, 255]);
-        }
-        for _ in 0..random.below(30) {
-            state[random.below(n)] = random.pick(&[1, 2, 4, 7, 8, 9, 11, 14, 15, 16, 255]);
-        }
+        compare::disturb(random, &mut cuts, &mut state);
         if random.percent(10) {
             cuts.resize(random.pick(&[0, 7 * n - 1, 7 * n + 1]), 0);
         }

@@ -18,7 +18,10 @@ struct Question {
 pub fn file() -> String {
     let block = Block::given_case();
     let state = fill_block(&block).state;
-    let entries = questions().iter().map(|question| recorded(&block, &state, question)).collect::<Vec<_>>();
+    let entries = questions()
+        .iter()
+        .map(|question| recorded(&block, &state, question))
+        .collect::<Vec<_>>();
     let mut text = String::from(HEAD);
     for (index, [comment, entry]) in entries.iter().enumerate() {
         let joint = if index == 0 { "" } else { "∷ " };
@@ -30,16 +33,40 @@ pub fn file() -> String {
 /// The first row's corners, then the ends of the unit's range, then refusals
 /// that come before 13.
 fn questions() -> Vec<Question> {
-    let ask = |id: u32, unit: f64| Question { entry: (0, 0), id, unit };
+    let ask = |id: u32, unit: f64| Question {
+        entry: (0, 0),
+        id,
+        unit,
+    };
     let corners = [13, 65, 235, 227].into_iter();
-    let mut list: Vec<Question> = corners.flat_map(|id| [1.0, 1.0 / 512.0, 0.1].map(|unit| ask(id, unit))).collect();
+    let mut list: Vec<Question> = corners
+        .flat_map(|id| [1.0, 1.0 / 512.0, 0.1].map(|unit| ask(id, unit)))
+        .collect();
     let [least, most] = [1.0 / 1_048_576.0, 16.0f64];
-    let ends = [least, least.next_down(), most, most.next_up(), 0.0, -0.0, -1.0];
-    let strange = [f64::from_bits(1), f64::MAX, f64::INFINITY, f64::NEG_INFINITY, f64::NAN];
+    let ends = [
+        least,
+        least.next_down(),
+        most,
+        most.next_up(),
+        0.0,
+        -0.0,
+        -1.0,
+    ];
+    let strange = [
+        f64::from_bits(1),
+        f64::MAX,
+        f64::INFINITY,
+        f64::NEG_INFINITY,
+        f64::NAN,
+    ];
     list.extend(ends.into_iter().chain(strange).map(|unit| ask(13, unit)));
     list.push(ask(280, 0.0));
     for unit in [1.0, f64::NAN] {
-        list.push(Question { entry: (13, 15), id: 13, unit });
+        list.push(Question {
+            entry: (13, 15),
+            id: 13,
+            unit,
+        });
     }
     list
 }
@@ -47,12 +74,17 @@ fn questions() -> Vec<Question> {
 /// The answer in decimals, and the entry of the list.
 fn recorded(block: &Block, state: &[u8], question: &Question) -> [String; 2] {
     let [nx, ny, nz] = block.sizes;
-    let Question { entry: (point, code), id, unit } = *question;
+    let Question {
+        entry: (point, code),
+        id,
+        unit,
+    } = *question;
     let mut state = state.to_vec();
     state[point] = code;
     let (number, bits) = place_mm_plain(nx, ny, nz, &block.cuts, &state, id, unit.to_bits());
     let [x, y, z] = bits.map(f64::from_bits);
-    let [unit_bits, i, j, k] = [unit.to_bits(), bits[0], bits[1], bits[2]].map(|bits| format!("{bits:#x}"));
+    let [unit_bits, i, j, k] =
+        [unit.to_bits(), bits[0], bits[1], bits[2]].map(|bits| format!("{bits:#x}"));
     [
         format!("-- id {id}, unit {unit:?}: {number}, ({x:?}, {y:?}, {z:?})"),
         format!("ask ({point} := {code}) {id} {unit_bits} {number} {i} {j} {k}"),
