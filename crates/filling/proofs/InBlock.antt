@@ -3,14 +3,14 @@
 use Prim.Native.Nat.{ℕ, _*_, _-_, _/_, _%_, _≤_, _<_}
 use native.Mathlib.Omega.{arith}
 use mathlib.Core.Path.{_≡_, refl}
-use mathlib.Core.Bool.{Bool, true, false, not, _&&_}
+use mathlib.Core.Bool.{Bool, true, false, not}
 use mathlib.Core.List.{List}
 use lib.IntN.{ℤ, natAbs}
 use lib.ListN.{length, getD}
-use lib.Dec.{leb, ltb, eqb, leb→le}
+use lib.Dec.{leb, ltb, eqb}
 use borrow.Author.Tests.{ltb-true, ltb-false, leb-false, eqb-true}
 use Rattle.basics.specs.Choice.{if_then_else_}
-use Rattle.basics.proofs.Test.{&&-l, &&-r, true-T}
+use Rattle.basics.proofs.Test.{true-T}
 use Rattle.lattice.specs.declared.Sizes.{Sizes}
 use Rattle.lattice.specs.declared.Near.{Near}
 use Rattle.lattice.specs.declared.Near.the-variants.{At, Nothing}
@@ -21,6 +21,7 @@ use Rattle.lattice.specs.Edge.{neighbour, byteAt, edgeByte}
 use Rattle.lattice.proofs.Sized.{fits-sized, size-high}
 use Rattle.moving.specs.Reading.{isMove}
 use Rattle.moving.specs.Block.{Bytes}
+use Rattle.moving.proofs.Bytes.{move-code}
 use Rattle.geometry.specs.Place.{rest, cutPlace, movedPlace, pointPlace, placeOf}
 use Rattle.geometry.proofs.InBlock.{cubeSteps, Steps, rest-in, cut-in, moved-in}
 use Rattle.filling.specs.declared.Placed.{Placed}
@@ -33,12 +34,6 @@ mostSteps = 32768
 -- the coordinate of an answer along an axis
 abbrev pub coordinate : Placed → Axis → ℕ
 coordinate p = xyz (p .x) (p .y) (p .z)
-
-move-code : (c : ℕ) → isMove c ≡ true → Code c
-unfolding isMove
-move-code c e =
-    let t = true-T (leb 1 c && leb c 14) e in
-    record { low = leb→le 1 c (&&-l (leb 1 c) _ t); high = leb→le c 14 (&&-r (leb 1 c) _ t) }
 
 module _ (s : Sizes) (cuts state : List ℕ) (bytes : Bytes cuts) where
   -- a point, whatever its state byte says

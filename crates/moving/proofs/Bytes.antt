@@ -3,14 +3,14 @@ use Prim.Native.Nat.{ℕ, _≤_, _<_}
 use native.Mathlib.Omega.{arith}
 use mathlib.Core.Path.{_≡_, refl, sym, _∙_, subst}
 use mathlib.Core.Logic.{_⊎_, inl, inr}
-use mathlib.Core.Bool.{Bool, true, false, not}
+use mathlib.Core.Bool.{Bool, true, false, not, _&&_}
 use mathlib.Core.List.{List}
 use lib.ListN.{length, getD, set}
 use lib.Seq.{getD-set-same, getD-set-other}
 use lib.Dec.{T, eqb, leb, leb→le}
 use borrow.Author.Tests.{eqb-true, eqb-false, eq-eqb, ne-eqb, le-leb}
 use Rattle.basics.specs.Choice.{if_then_else_}
-use Rattle.basics.proofs.Test.{&&-l, &&-r, &&-i}
+use Rattle.basics.proofs.Test.{&&-l, &&-r, &&-i, true-T}
 use Rattle.lattice.specs.declared.Near.{Near}
 use Rattle.lattice.specs.declared.Near.the-variants.{At, Nothing}
 use Rattle.lattice.specs.Counts.{points}
@@ -31,10 +31,16 @@ same-or a b = go (eqb a b) refl
     go true e = inl (eqb-true a b e)
     go false e = inr (eqb-false a b e)
 
--- codes are moves, 0 is none
+-- codes are moves and moves codes, 0 is none
 pub code-move : (c : ℕ) → Code c → isMove c ≡ true
 unfolding isMove
 code-move c h = simp (le-leb 1 c (h .low), le-leb c 14 (h .high))
+
+pub move-code : (c : ℕ) → isMove c ≡ true → Code c
+unfolding isMove
+move-code c e =
+    let t = true-T (leb 1 c && leb c 14) e in
+    record { low = leb→le 1 c (&&-l (leb 1 c) _ t); high = leb→le c 14 (&&-r (leb 1 c) _ t) }
 
 pub code-nonzero : (c : ℕ) → Code c → isMove c ≡ saysZero c
 code-nonzero c h = rw (code-move c h, ne-eqb c 0 (λ e. omega (arith, h .low))) refl
