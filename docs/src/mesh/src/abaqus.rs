@@ -7,7 +7,7 @@ use std::fmt::Write;
 const NODES: &str = "*NODE, NSET=NALL\n";
 const ELEMENTS: &str = "*ELEMENT, TYPE=C3D4, ELSET=RUBBER\n";
 
-/// Both programs read so many characters of a number and no more.
+/// As far as we know both programs read so many characters of a number and no more.
 const WIDEST: usize = 20;
 
 /// A coordinate as text that is read whole: the shortest that reads back as the same number, if it fits. Else the number is below 0.01
