@@ -8,15 +8,16 @@ use mathlib.Core.List.{List, [], _∷_, map}
 use lib.IntN.{pos, negℤ}
 use lib.ListN.{replicate, set}
 use Rattle.basics.specs.Choice.{if_then_else_}
-use Rattle.basics.specs.Lists.{gather, from, below, firstFrom}
+use Rattle.basics.specs.Lists.{gather, from, below}
 use Rattle.basics.specs.cases.Table.{Entry, _:=_, tableOf}
 use Rattle.lattice.specs.Counts.{cells, points}
 use Rattle.lattice.specs.Point.{linear, cell, kindOf}
 use Rattle.lattice.specs.Direction.{directions, direction, long, isStart, directionOf, step}
 use Rattle.lattice.specs.Edge.{staysIn, farKind, farIndex, near, edgeByte}
 use Rattle.moving.specs.Label.{labelOf, labels, isZero}
-use Rattle.moving.specs.Violation.{limit, measured, violates}
-use Rattle.moving.specs.Reading.{isMove, labelAfter, live, violatedAlong}
+use Rattle.moving.specs.Violation.{limit, measured, squared, violation}
+use Rattle.moving.specs.Nearest.{nearer, nearestTo}
+use Rattle.moving.specs.Reading.{isMove, labelAfter, live, violationAlong}
 use Rattle.moving.specs.Order.{moveTo, turn, moveBy}
 use Rattle.moving.specs.Moving.{choice, outset, stateAt, stateOf}
 use Rattle.moving.specs.Block.{Block, blockOf, readingOf}
@@ -41,11 +42,14 @@ block c =
 
 unfoldable pub theCases : List Case
 theCases =
-    -- codes 1 and 4 of point 0 violate: "the search stops at the first"
-    case 0 (0 := 63 ∷ 3 := 105 ∷ []) (0 := 1 ∷ [])
-    -- codes 4 and 11 of point 8: a start's codes are tried before an end's
-    ∷ case 8 (3 := 200 ∷ 59 := 100 ∷ []) (8 := 4 ∷ [])
-    -- codes 11 and 13 of point 8
+    -- codes 1 and 4 of point 0 violate: "4 times t squared on long edges and 3 times t squared on short ones", 14,400 and 13,068
+    case 0 (0 := 60 ∷ 3 := 66 ∷ []) (0 := 4 ∷ [])
+    -- 12,996 and 13,068
+    ∷ case 0 (0 := 57 ∷ 3 := 66 ∷ []) (0 := 1 ∷ [])
+    -- codes 4 and 11 of point 8, "With t counted from the point": 100 and 56
+    ∷ case 8 (3 := 200 ∷ 59 := 100 ∷ []) (8 := 11 ∷ [])
+    -- "a tie goes to the lower code": 100 from the start and from the end; codes 11 and 13 of point 8
+    ∷ case 8 (3 := 156 ∷ 59 := 100 ∷ []) (8 := 4 ∷ [])
     ∷ case 8 (3 := 200 ∷ 19 := 200 ∷ []) (8 := 11 ∷ [])
     -- "A cut is live while both its ends have non-zero labels": once point 0 has moved, the cut towards point 8 no longer moves it
     ∷ case 0 (0 := 63 ∷ 3 := 151 ∷ []) (0 := 1 ∷ [])
@@ -55,7 +59,7 @@ theCases =
 
 pub one-cube : map (λ c. stateOf (readingOf (block c))) theCases ≡ map (λ c. tableOf 9 (c .moves)) theCases
 unfolding
-    theCases block tableOf stateAt outset moveBy turn moveTo from choice firstFrom violatedAlong
-    labels live labelAfter labelOf isZero violates limit measured
+    theCases block tableOf stateAt outset moveBy turn moveTo from choice nearestTo nearer violationAlong
+    labels live labelAfter labelOf isZero violation limit measured squared
     cells points linear cell kindOf directions direction long isStart directionOf step staysIn farKind farIndex near edgeByte
 one-cube = refl

@@ -10,7 +10,7 @@ use lib.Seq.{getD-set-same, getD-set-other}
 use lib.Dec.{T, eqb, leb, leb→le}
 use borrow.Author.Tests.{eqb-true, eqb-false, eq-eqb, ne-eqb, le-leb}
 use Rattle.basics.specs.Choice.{if_then_else_}
-use Rattle.basics.proofs.Test.{&&-l, &&-r, &&-i, true-T}
+use Rattle.basics.proofs.Test.{&&-l, &&-r, &&-i, true-T, T-true}
 use Rattle.lattice.specs.declared.Near.{Near}
 use Rattle.lattice.specs.declared.Near.the-variants.{At, Nothing}
 use Rattle.lattice.specs.Counts.{points}
@@ -18,9 +18,10 @@ use Rattle.lattice.specs.Direction.{Code, directionOf}
 use Rattle.lattice.specs.Edge.{neighbour}
 use Rattle.moving.specs.declared.Label.{Label}
 use Rattle.moving.specs.declared.Label.the-variants.{Zero}
+use Rattle.moving.specs.declared.Violation.the-variants.{No, Distance}
 use Rattle.moving.specs.Label.{isZero}
-use Rattle.moving.specs.Violation.{Rule, limit, measured, violates}
-use Rattle.moving.specs.Reading.{Reading, isMove, saysZero, labelAfter, live, cutAlong, violatedAlong, violatedBy}
+use Rattle.moving.specs.Violation.{Rule, limit, measured, squared, violation, violated, violates}
+use Rattle.moving.specs.Reading.{Reading, isMove, saysZero, labelAfter, live, cutAlong, violationAlong, violatedBy}
 use Rattle.moving.proofs.Settled.{NonZero, Edge, Violating, MayMove}
 
 -- two numbers are equal or not
@@ -84,31 +85,41 @@ module _ (label : ℕ → Label) (codes : List ℕ) where
 
 -- a cut that violates is within the limit
 pub violates-within : (r : Rule) (c t : ℕ) → T (violates r c t) → measured c t ≤ limit r (directionOf c)
-unfolding violates
-violates-within r c t v = leb→le _ _ (&&-r (not (eqb t 0)) (leb (measured c t) (limit r (directionOf c))) v)
+unfolding violation violated
+violates-within r c t v = go (not (eqb t 0) && leb (measured c t) (limit r (directionOf c))) refl v
+  where
+    go : (b : Bool) → (not (eqb t 0) && leb (measured c t) (limit r (directionOf c))) ≡ b
+        → T (violated (if b then Distance (squared (directionOf c) (measured c t)) else No))
+        → measured c t ≤ limit r (directionOf c)
+    go true e v = leb→le _ _ (&&-r (not (eqb t 0)) _ (true-T _ e))
+    go false e v = absurd v
 
 module _ (m : Reading) (codes : List ℕ) (p c : ℕ) where
   -- the violating cut of a code that violates
   pub violating-of : p < points (m .sizes) → Code c → T (violatedBy m codes p c) → MayMove m codes p c
-  unfolding violatedAlong live
+  unfolding violationAlong violated live
   violating-of h k t = go (neighbour (m .sizes) p c) refl t
     where
-      go : (n : Near) → neighbour (m .sizes) p c ≡ n → T (violatedAlong m codes p c n) → MayMove m codes p c
-      go Nothing e t = absurd t
-      go (At q) e t =
-          let alive = &&-l (live (m .label) codes p q) _ t in
+      along : (q : ℕ) → neighbour (m .sizes) p c ≡ At q → (b : Bool) → live (m .label) codes p q ≡ b
+          → T (violated (if b then violation (m .rule) c (cutAlong m p c q) else No)) → MayMove m codes p c
+      along q e false l t = absurd t
+      along q e true l t =
           let here-alive = not (isZero (labelAfter (m .label) codes p)) in (
             q,
             record {
               edge = record { point = h; code = k; leads = e };
-              here = &&-l here-alive _ alive;
-              there = &&-r here-alive _ alive;
-              near = &&-r (live (m .label) codes p q) (violates (m .rule) c (cutAlong m p c q)) t;
+              here = &&-l here-alive _ (true-T _ l);
+              there = &&-r here-alive _ (true-T _ l);
+              near = t;
             },
           )
 
+      go : (n : Near) → neighbour (m .sizes) p c ≡ n → T (violated (violationAlong m codes p c n)) → MayMove m codes p c
+      go Nothing e t = absurd t
+      go (At q) e t = along q e (live (m .label) codes p q) refl t
+
   pub violating-i : (q : ℕ) → Violating m codes p c q → T (violatedBy m codes p c)
-  unfolding violatedAlong live
+  unfolding violationAlong live
   violating-i q v =
-      rw (v .edge .leads)
-      (&&-i (live (m .label) codes p q) _ (&&-i (not (isZero (labelAfter (m .label) codes p))) _ (v .here) (v .there)) (v .near))
+      let here-alive = not (isZero (labelAfter (m .label) codes p)) in
+      rw (v .edge .leads, T-true (live (m .label) codes p q) (&&-i here-alive _ (v .here) (v .there))) (v .near)

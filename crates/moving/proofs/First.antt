@@ -1,5 +1,6 @@
--- Document 01's choice, the first code that violates: a point moves, to a cut that violates it, exactly if there is one. Assumes nothing.
-use Prim.Native.Nat.{ℕ, _≤_, _<_}
+-- Document 01's own choice, which document 02 replaces: the first code that violates. It too moves a point, to a cut that violates it,
+-- exactly if there is one. Assumes nothing.
+use Prim.Native.Nat.{ℕ}
 use native.Mathlib.Omega.{arith}
 use mathlib.Core.Path.{_≡_, refl}
 use mathlib.Core.Logic.{inl, inr}
@@ -11,15 +12,18 @@ use Rattle.basics.specs.Lists.{firstFrom}
 use Rattle.basics.proofs.Test.{false-F, lt-or}
 use Rattle.basics.proofs.Search.{first-found}
 use Rattle.moving.specs.Reading.{Reading, violatedBy}
-use Rattle.moving.specs.Moving.{choice}
 use Rattle.moving.proofs.Settled.{MayMove}
 use Rattle.moving.proofs.Bytes.{violating-of, violating-i}
 use Rattle.moving.proofs.Taking.{Sound, Complete, Chooser}
 
+-- "Its fourteen edges are tried in code order and the search stops at the first that violates"
+unfoldable pub firstChoice : Reading → List ℕ → ℕ → ℕ
+firstChoice m codes p = let c = firstFrom (violatedBy m codes p) 14 1 in if ltb 14 c then 0 else c
+
 module _ (m : Reading) where
-  pub choice-sound : Sound m (choice m)
-  unfolding choice
-  choice-sound t p h = go (firstFrom (violatedBy m t p) 14 1) refl
+  first-sound : Sound m (firstChoice m)
+  unfolding firstChoice
+  first-sound t p h = go (firstFrom (violatedBy m t p) 14 1) refl
     where
       go : (c : ℕ) → firstFrom (violatedBy m t p) 14 1 ≡ c → ((if ltb 14 c then 0 else c) ≡ 0 → ⊥)
           → MayMove m t p (if ltb 14 c then 0 else c)
@@ -31,9 +35,9 @@ module _ (m : Reading) where
                 (rw e at (f .passes (omega arith))))
           ]
 
-  choice-complete : (p : ℕ) → Complete m (choice m) p
-  unfolding choice
-  choice-complete p t z c q v =
+  first-complete : (p : ℕ) → Complete m (firstChoice m) p
+  unfolding firstChoice
+  first-complete p t z c q v =
       let f = first-found (violatedBy m t p) 14 1 in
       elim (lt-or 14 r) [
         | inl l ↦ (let fails = f .fails c (v .edge .code .low) (omega (arith, v .edge .code .high)) in
@@ -44,12 +48,5 @@ module _ (m : Reading) where
       r : ℕ
       r = firstFrom (violatedBy m t p) 14 1
 
-  pub choice-chooser : Chooser m (choice m)
-  choice-chooser = record { sound = choice-sound; complete = choice-complete }
-
-  pub choice-bound : (t : List ℕ) (p : ℕ) → choice m t p ≤ 14
-  unfolding choice
-  choice-bound t p = go (firstFrom (violatedBy m t p) 14 1)
-    where
-      go : (c : ℕ) → (if ltb 14 c then 0 else c) ≤ 14
-      go c = elim (lt-or 14 c) [ inl l ↦ rw (lt-ltb 14 c l) (omega arith) | inr l ↦ rw (le-ltb 14 c l) l ]
+  pub first-chooser : Chooser m (firstChoice m)
+  first-chooser = record { sound = first-sound; complete = first-complete }

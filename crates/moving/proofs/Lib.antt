@@ -6,5 +6,9 @@ pub mod Bytes
 pub mod Turns
 pub mod Run
 pub mod Taking
+pub mod Nearest
+pub mod Choice
 pub mod First
+pub mod SamePoints
 pub mod Moved
+pub mod Theorems

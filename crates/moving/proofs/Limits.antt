@@ -7,7 +7,7 @@ use lib.ListN.{replicate}
 use Rattle.basics.specs.Choice.{if_then_else_}
 use Rattle.basics.specs.Lists.{gather, from, below}
 use Rattle.lattice.specs.Direction.{long, isStart, directionOf}
-use Rattle.moving.specs.Violation.{rule1, limit, measured, violates}
+use Rattle.moving.specs.Violation.{rule1, limit, measured, violation, violated, violates}
 
 unfoldable pub violating : ℕ → List ℕ
 violating c = gather (λ t. if violates rule1 c t then t ∷ [] else []) (below 256)
@@ -16,5 +16,5 @@ violating c = gather (λ t. if violates rule1 c t then t ∷ [] else []) (below 
 pub limits :
     map violating (from 1 14)
     ≡ replicate 3 (from 1 63) ++ replicate 4 (from 1 105) ++ replicate 3 (from 193 63) ++ replicate 4 (from 151 105)
-unfolding violating gather from violates limit measured long isStart directionOf
+unfolding violating gather from violated violation limit measured long isStart directionOf
 limits = refl

@@ -1,4 +1,4 @@
--- What moving leaves behind by document 01's order and choice, and what every table that moves have reached says of its points.
+-- What moving leaves behind by document 01's order and document 02's choice, and what every table that moves have reached says of its points.
 -- Assumes nothing.
 --     outset-long, outset-at       the table at the outset
 --     stateAt-suc, stateAt-ahead   one turn more; points ahead are as at the outset
@@ -28,7 +28,7 @@ use Rattle.moving.proofs.Settled.{MayMove, Reached, Settled}
 use Rattle.moving.proofs.Bytes.{code-move, code-nonzero, zero-rests, label-still}
 use Rattle.moving.proofs.Turns.{moveBy-suc, moveBy-other, moveBy-length}
 use Rattle.moving.proofs.Taking.{order-settles}
-use Rattle.moving.proofs.First.{choice-chooser}
+use Rattle.moving.proofs.Choice.{choice-chooser}
 
 module _ (m : Reading) where
   pub outset-long : length (outset m) ≡ points (m .sizes)

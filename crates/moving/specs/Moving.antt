@@ -1,18 +1,17 @@
--- Document 01, "Moving points": which points move, and by which code.
+-- Document 01, "Moving points", with the choice of document 02, F-2: which points move, and by which code.
 use Prim.Native.Nat.{ℕ}
 use mathlib.Core.List.{List}
 use lib.ListN.{replicate}
-use lib.Dec.{ltb}
-use Rattle.basics.specs.Choice.{if_then_else_}
-use Rattle.basics.specs.Lists.{below, firstFrom}
+use Rattle.basics.specs.Lists.{below}
 use Rattle.lattice.specs.Counts.{points}
-use Rattle.moving.specs.Reading.{Reading, violatedBy}
+use Rattle.moving.specs.Nearest.{nearest}
+use Rattle.moving.specs.Reading.{Reading, violationBy}
 use Rattle.moving.specs.Order.{moveBy}
 
 module _ (m : Reading) where
-  -- "tried in code order and the search stops at the first that violates": codes 1 to 14, or 0 if none does
+  -- F-2: "From now on a point moves to the violating live cut nearest to it": codes 1 to 14, or 0 if none violates it
   unfoldable pub choice : List ℕ → ℕ → ℕ
-  choice codes p = let c = firstFrom (violatedBy m codes p) 14 1 in if ltb 14 c then 0 else c
+  choice codes p = nearest (violationBy m codes p)
 
   -- the table at the outset: "0 for a point that did not move"
   unfoldable pub outset : List ℕ

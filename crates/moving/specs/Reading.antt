@@ -2,9 +2,9 @@
 --     Reading                  sizes, labels at the outset, cut bytes, a rule
 --     isMove, saysZero         what a state byte says of its point
 --     labelAfter, live         labels while points move
---     violatedBy               a live cut violates a point
+--     violationBy, violatedBy  a live cut violates a point, and from how far
 use Prim.Native.Nat.{ℕ}
-use mathlib.Core.Bool.{Bool, false, not, _&&_}
+use mathlib.Core.Bool.{Bool, not, _&&_}
 use mathlib.Core.List.{List}
 use lib.ListN.{getD}
 use lib.Dec.{eqb, leb}
@@ -15,8 +15,10 @@ use Rattle.lattice.specs.declared.Near.the-variants.{At, Nothing}
 use Rattle.lattice.specs.Edge.{neighbour, edgeByte}
 use Rattle.moving.specs.declared.Label.{Label}
 use Rattle.moving.specs.declared.Label.the-variants.{Zero}
+use Rattle.moving.specs.declared.Violation.{Violation}
+use Rattle.moving.specs.declared.Violation.the-variants.{No}
 use Rattle.moving.specs.Label.{isZero}
-use Rattle.moving.specs.Violation.{Rule, violates}
+use Rattle.moving.specs.Violation.{Rule, violation, violated}
 
 pub record Reading : Type 0 where
   pub sizes : Sizes
@@ -45,10 +47,13 @@ module _ (m : Reading) where
   abbrev pub cutAlong : ℕ → ℕ → ℕ → ℕ
   cutAlong p c q = getD (m .cuts) (edgeByte p c q) 0
 
-  -- the cut on the edge by code c, to this neighbour, is live and violates p
-  unfoldable pub violatedAlong : List ℕ → ℕ → ℕ → Near → Bool
-  violatedAlong codes p c Nothing = false
-  violatedAlong codes p c (At q) = live (m .label) codes p q && violates (m .rule) c (cutAlong p c q)
+  -- how the cut on the edge by code c, to this neighbour, violates p: not at all unless it is live
+  unfoldable pub violationAlong : List ℕ → ℕ → ℕ → Near → Violation
+  violationAlong codes p c Nothing = No
+  violationAlong codes p c (At q) = if live (m .label) codes p q then violation (m .rule) c (cutAlong p c q) else No
+
+  abbrev pub violationBy : List ℕ → ℕ → ℕ → Violation
+  violationBy codes p c = violationAlong codes p c (neighbour (m .sizes) p c)
 
   abbrev pub violatedBy : List ℕ → ℕ → ℕ → Bool
-  violatedBy codes p c = violatedAlong codes p c (neighbour (m .sizes) p c)
+  violatedBy codes p c = violated (violationBy codes p c)

@@ -1,0 +1,106 @@
+-- The nearest code, whatever violates: what it is, and when there is none. Assumes nothing.
+--     Nearest           a code violates, no violating code is nearer, and none as near has a lower number
+--     nearest-or        either it is that, or nothing violates
+--     nearest-unique    no two are
+use Prim.Native.Nat.{ℕ, zero, suc, _≤_, _<_}
+use native.Mathlib.Omega.{arith}
+use mathlib.Core.Path.{_≡_, refl, sym, ap, subst, _∙_}
+use mathlib.Core.Logic.{_⊎_, inl, inr}
+use lib.Dec.{T}
+use borrow.Author.Tests.{ne-eqb, lt-ltb, le-ltb}
+use Rattle.basics.specs.Choice.{if_then_else_}
+use Rattle.basics.proofs.Test.{lt-or}
+use Rattle.moving.specs.declared.Violation.{Violation}
+use Rattle.moving.specs.declared.Violation.the-variants.{No, Distance}
+use Rattle.moving.specs.Violation.{violated}
+use Rattle.moving.specs.Nearest.{nearer, byCode, nearestTo}
+
+-- of two distances that are one
+same-distance : {v : Violation} {d e : ℕ} → v ≡ Distance d → v ≡ Distance e → d ≡ e
+same-distance {d = d} f g = ap distance (sym f ∙ g)
+  where
+    distance : Violation → ℕ
+    distance No = d
+    distance (Distance x) = x
+
+no-distance : {v : Violation} {d : ℕ} → v ≡ No → v ≡ Distance d → ⊥
+unfolding violated
+no-distance f g = subst (λ (w : Violation). T (violated w)) (sym g ∙ f) tt
+
+module _ (by : ℕ → Violation) where
+  -- of the codes 1 to n
+  pub record Nearest (n c d : ℕ) : Type 0 where
+    pub low : 1 ≤ c
+    pub high : c ≤ n
+    -- the chosen code violates, at the distance d squared
+    pub at : by c ≡ Distance d
+    -- "nearest": no violating code is nearer
+    pub least : (e x : ℕ) → 1 ≤ e → e ≤ n → by e ≡ Distance x → d ≤ x
+    -- "a tie goes to the lower code": none as near has a lower code
+    pub tie : (e x : ℕ) → 1 ≤ e → e < c → by e ≡ Distance x → d < x
+
+  -- nothing violates
+  abbrev pub Quiet : ℕ → Type 0
+  Quiet n = (e : ℕ) → 1 ≤ e → e ≤ n → by e ≡ No
+
+  abbrev Either : ℕ → ℕ → Type 0
+  Either n c = ((c ≡ 0) × Quiet n) ⊎ ((d : ℕ) × Nearest n c d)
+
+  quiet-on : (n : ℕ) → Quiet n → by (suc n) ≡ No → Quiet (suc n)
+  quiet-on n q v e l u = elim (lt-or n e) [ inl k ↦ ap by (omega arith) ∙ v | inr k ↦ q e l k ]
+
+  -- one code more: it is the nearest now, or the one before still is
+  nearest-new : (n x : ℕ) → by (suc n) ≡ Distance x → ((e y : ℕ) → 1 ≤ e → e ≤ n → by e ≡ Distance y → x < y)
+      → Nearest (suc n) (suc n) x
+  nearest-new n x v h =
+      record {
+        low = omega arith;
+        high = omega arith;
+        at = v;
+        least = λ e y l u w.
+            elim (lt-or n e) [
+              | inl k ↦ let z : e ≡ suc n = omega arith in omega (arith, same-distance v (rw z at w))
+              | inr k ↦ omega (arith, h e y l k w)
+            ];
+        tie = λ e y l u w. h e y l (omega arith) w;
+      }
+
+  nearest-still : (n c d : ℕ) → Nearest n c d → ((x : ℕ) → by (suc n) ≡ Distance x → d ≤ x) → Nearest (suc n) c d
+  nearest-still n c d h far =
+      record {
+        low = h .low;
+        high = omega (arith, h .high);
+        at = h .at;
+        least = λ e y l u w.
+            elim (lt-or n e) [ inl k ↦ (let z : e ≡ suc n = omega arith in far y (rw z at w)) | inr k ↦ h .least e y l k w ];
+        tie = h .tie;
+      }
+
+  nearest-step : (n c : ℕ) → Either n c → (v : Violation) → by (suc n) ≡ v
+      → Either (suc n) (if nearer v (byCode by c) then suc n else c)
+  unfolding nearer
+  nearest-step n c (inl (z, q)) No e = inl (z, quiet-on n q e)
+  nearest-step n c (inl (z, q)) (Distance x) e =
+      rw z (inr (x, nearest-new n x e (λ j y l u w. absurd (no-distance (q j l u) w))))
+  nearest-step n c (inr (d, h)) No e = inr (d, nearest-still n c d h (λ x w. absurd (no-distance e w)))
+  nearest-step n c (inr (d, h)) (Distance x) e =
+      rw (ne-eqb c 0 (λ z. omega (arith, h .low)), h .at)
+      (elim (lt-or x d) [
+        | inl l ↦ rw (lt-ltb x d l) (inr (x, nearest-new n x e (λ j y a b w. omega (arith, h .least j y a b w))))
+        | inr l ↦ rw (le-ltb x d l) (inr (d, nearest-still n c d h (λ y w. omega (arith, same-distance e w))))
+      ])
+
+  pub nearest-or : (n : ℕ) → Either n (nearestTo by n)
+  unfolding nearestTo
+  nearest-or zero = inl (refl, λ e l u. absurd (omega arith))
+  nearest-or (suc n) = nearest-step n (nearestTo by n) (nearest-or n) (by (suc n)) refl
+
+  pub nearest-unique : {n c e d x : ℕ} → Nearest n c d → Nearest n e x → c ≡ e
+  nearest-unique {c = c} {e = e} {d = d} {x = x} h g =
+      elim (lt-or c e) [
+        | inl l ↦ absurd (omega (arith, g .tie c d (h .low) l (h .at), h .least e x (g .low) (g .high) (g .at)))
+        | inr l ↦ elim (lt-or e c) [
+          | inl u ↦ absurd (omega (arith, h .tie e x (g .low) u (g .at), g .least c d (h .low) (h .high) (h .at)))
+          | inr u ↦ omega arith
+        ]
+      ]
