@@ -8,8 +8,9 @@ use Rattle.lattice.specs.Direction.{directions, direction, long, isStart, direc
 use Rattle.lattice.specs.Edge.{staysIn, farKind, farIndex, near, edgeByte}
 use Rattle.lattice.specs.Rim.{outermost, rimAt}
 use Rattle.moving.specs.Label.{labelOf, labels, isPlus, isZero, isMinus, opposed}
-use Rattle.moving.specs.Violation.{limit, measured, violates}
-use Rattle.moving.specs.Reading.{isMove, labelAfter, live, violatedAlong}
+use Rattle.moving.specs.Violation.{limit, measured, squared, violation, violated}
+use Rattle.moving.specs.Nearest.{nearer, nearestTo}
+use Rattle.moving.specs.Reading.{isMove, labelAfter, live, violationAlong}
 use Rattle.moving.specs.Order.{moveTo, turn, moveBy}
 use Rattle.moving.specs.Moving.{choice, outset, stateAt}
 use Rattle.stencil.specs.Tetrahedron.{unit, around, offset, corner, cornerNumber, inTurn, inCube, inLine, inLayer, inAxis, tetrahedraOf}
@@ -27,8 +28,8 @@ unfolding
     gather from firstFrom count tableOf
     sizesFit cells points tetrahedra linear cell kindOf directions direction long isStart directionOf step
     staysIn farKind farIndex near edgeByte outermost rimAt
-    labelOf labels isPlus isZero isMinus opposed limit measured violates isMove labelAfter live violatedAlong
-    moveTo turn moveBy choice outset stateAt
+    labelOf labels isPlus isZero isMinus opposed limit measured squared violation violated isMove labelAfter live violationAlong
+    nearer nearestTo moveTo turn moveBy choice outset stateAt
     unit around offset corner cornerNumber inTurn inCube inLine inLayer inAxis tetrahedraOf
     cut choose stencilOf rowsOf rowsFor leadsTo codeBetween idOf
     latticePlace cutPlace movedPlace pointPlace placeOf cross dot triple sixVolume

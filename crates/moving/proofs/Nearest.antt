@@ -1,6 +1,8 @@
 -- The nearest code, whatever violates: what it is, and when there is none. Assumes nothing.
 --     Nearest           a code violates, no violating code is nearer, and none as near has a lower number
 --     nearest-or        either it is that, or nothing violates
+--     nearest-none      so if nothing does, it is 0
+--     nearest-le        it is no higher than the codes that are asked
 --     nearest-unique    no two are
 use Prim.Native.Nat.{ℕ, zero, suc, _≤_, _<_}
 use native.Mathlib.Omega.{arith}
@@ -94,6 +96,13 @@ module _ (by : ℕ → Violation) where
   unfolding nearestTo
   nearest-or zero = inl (refl, λ e l u. absurd (omega arith))
   nearest-or (suc n) = nearest-step n (nearestTo by n) (nearest-or n) (by (suc n)) refl
+
+  pub nearest-none : (n : ℕ) → Quiet n → nearestTo by n ≡ 0
+  nearest-none n q =
+      elim (nearest-or n) [ inl z ↦ z .0 | inr g ↦ (let h = g .1 in absurd (no-distance (q _ (h .low) (h .high)) (h .at))) ]
+
+  pub nearest-le : (n : ℕ) → nearestTo by n ≤ n
+  nearest-le n = elim (nearest-or n) [ inl z ↦ omega (arith, z .0) | inr g ↦ g .1 .high ]
 
   pub nearest-unique : {n c e d x : ℕ} → Nearest n c d → Nearest n e x → c ≡ e
   nearest-unique {c = c} {e = e} {d = d} {x = x} h g =

@@ -57,7 +57,7 @@ fn moved_point(s: Sizes, cuts: &[u8], p: usize, code: usize) -> Placed
     match far {
         Near::At(n) => {
             let t = cuts[edges::edge_byte(p, code, n)];
-            if violation::violates(code, t) {
+            if violation::is_violated(violation::violation(code, t)) {
                 return answered(points::moved_place(rest, code, t));
             }
             refused(9)

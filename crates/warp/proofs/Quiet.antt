@@ -13,11 +13,12 @@ use Rattle.lattice.specs.declared.Site.{Site}
 use Rattle.lattice.specs.Axis.{along-x}
 use Rattle.lattice.specs.Counts.{Sized, grid}
 use Rattle.lattice.specs.Direction.{Code, asEnd}
-use Rattle.lattice.specs.Edge.{near, edgeByte}
+use Rattle.lattice.specs.Edge.{near, neighbour, edgeByte}
 use Rattle.lattice.specs.inner.Site.{Sited, index}
 use Rattle.lattice.proofs.Sites.{by-direction}
-use Rattle.moving.specs.Violation.{rule1, Rule, violates}
-use Rattle.moving.specs.Reading.{Reading, violatedBy}
+use Rattle.moving.specs.declared.Violation.the-variants.{No}
+use Rattle.moving.specs.Violation.{rule1, Rule, violation, violated, violates}
+use Rattle.moving.specs.Reading.{Reading, cutAlong}
 use Rattle.moving.specs.Moving.{choice}
 use Rattle.ground.specs.inner.Lines.{Line, lineAt}
 use Rattle.ground.specs.inner.Strides.{startsAt, rangeMost}
@@ -31,14 +32,15 @@ use Rattle.warp.proofs.Searching.{Searching, unviolated, search-to, sea
 
 -- a byte of 0 is no cut
 none-violates : (r : Rule) (c t : ℕ) → t ≡ 0 → violates r c t ≡ false
-unfolding violates
+unfolding violation violated
 none-violates r c t e = rw e refl
 
 -- a point without a cut does not move
 pub bare-stays : (m : Reading) (codes : List ℕ) (p : ℕ) → Bare (m .sizes) (m .cuts) p → choice m codes p ≡ 0
 bare-stays m codes p b =
     search-ends
-    (search-to 14 (omega arith) (λ c k u. unviolated m codes p c (λ q e. none-violates (m .rule) c _ (b .none c k q e))))
+    (search-to m codes p {c = 15} (omega arith, omega arith) (λ c k u.
+    unviolated m codes p c (λ q e. none-violates (m .rule) c _ (b .none c k q e))))
     (omega arith)
 
 -- fourteen bytes that are zero: seven of edges that start at the point, seven of edges that end there
@@ -128,18 +130,21 @@ bare-line s q h l cuts {back} {m} b e u =
     subst (λ (n : ℕ). Uncut cuts (getD (rangesFrom (startsAt s q)) k 0) n) e
     (subst (λ (l : List ℕ). Uncut cuts (getD (rangesFrom l) k 0) m) b (u k i)))
 
+-- the byte that stands for the edge by a code, at a site with the number p
+pub offset-byte : (m : Reading) (q : Site) (at : List ℕ) {p c t : ℕ} → q .own ≡ p → Sized (m .sizes) → Sited (m .sizes) q
+    → Offsets (m .sizes) q at → Code c → t ≡ getD (m .cuts) (getD at (c - 1) 0) 0
+    → (e : ℕ) → neighbour (m .sizes) p c ≡ At e → t ≡ cutAlong m p c e
+offset-byte m q at {c = c} i h g o k is e near =
+    let leads = ap (λ (n : ℕ). neighbour (m .sizes) n c) i ∙ near in
+    is
+    ∙ ap (λ (j : ℕ). getD (m .cuts) j 0) (o .byte c k e (sym (site-near (m .sizes) q h g c) ∙ leads))
+    ∙ ap (λ (n : ℕ). cutAlong m n c e) i
+
 -- the search may start where the first byte violates
 pub search-from : (m : Reading) (q : Site) (at codes : List ℕ) {p r : ℕ} → m .rule ≡ rule1 → q .own ≡ p
     → Sized (m .sizes) → Sited (m .sizes) q
-    → Offsets (m .sizes) q at → (1 ≤ r) × (r ≤ 15) → Spared (m .cuts) at r → Searching m codes p r
-search-from m q at codes {r = r} rule i h g o l n =
-    let e : r - 1 + 1 ≡ r = omega (arith, l .0) in
-    subst (λ (k : ℕ). Searching m codes k r) i
-    (subst (Searching m codes (q .own)) e (search-to (r - 1) (omega (arith, l .1)) spared))
-  where
-    spared : (c : ℕ) → Code c → c < r - 1 + 1 → violatedBy m codes (q .own) c ≡ false
-    spared c k u =
-        unviolated m codes (q .own) c (λ x near.
-        let here = o .byte c k x (sym (site-near (m .sizes) q h g c) ∙ near) in
-        ap (λ (w : Rule). violates w c (getD (m .cuts) (edgeByte (q .own) c x) 0)) rule
-        ∙ ap (λ (j : ℕ). violates rule1 c (getD (m .cuts) j 0)) (sym here) ∙ n .none c k (omega arith))
+    → Offsets (m .sizes) q at → (1 ≤ r) × (r ≤ 15) → Spared (m .cuts) at r → Searching m codes p 0 No r
+search-from m q at codes {p = p} rule i h g o l n =
+    search-to m codes p l (λ c k u. unviolated m codes p c (λ e near.
+    let byte = offset-byte m q at i h g o k refl e near in
+    (λ j. violates (rule j) c (sym byte j)) ∙ n .none c k u))

@@ -15,7 +15,7 @@ use Rattle.moving.specs.Order.{moveBy}
 use Rattle.moving.specs.Moving.{choice, outset, stateAt, stateOf}
 use Rattle.moving.proofs.Turns.{turn-still, turn-moves}
 use Rattle.moving.proofs.Moved.{outset-at, stateAt-long, stateAt-suc, stateAt-ahead}
-use Rattle.moving.proofs.First.{choice-sound}
+use Rattle.moving.proofs.Choice.{choice-sound}
 use Rattle.filling.specs.Fill.{movedCount}
 use Rattle.ground.specs.inner.Lines.{Line}
 use Rattle.ground.proofs.Lines.{line-own, line-fits}

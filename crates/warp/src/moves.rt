@@ -9,22 +9,22 @@ use lattice::Sizes;
 use lattice::counts;
 use lattice::edges;
 use lattice::numbers;
+use moving::Violation;
 ghost use mathlib.Core.Path.{_≡_};
-ghost use Prim.Native.Nat.{ℕ, _+_, _<_, _≤_};
+ghost use Prim.Native.Nat.{_+_, _<_, _≤_};
 ghost use lib.ListN.{length, replicate};
-ghost use Rattle.lattice.specs.declared.Near.the-variants.{At};
 ghost use Rattle.lattice.specs.Axis.{along-x};
-ghost use Rattle.lattice.specs.Counts.{grid, points};
+ghost use Rattle.lattice.specs.Counts.{Sized, grid, points};
 ghost use Rattle.lattice.specs.Direction.{Code};
-ghost use Rattle.lattice.specs.Edge.{near, edgeByte};
-ghost use Rattle.lattice.specs.inner.Site.{Sited, index};
+ghost use Rattle.lattice.specs.Edge.{neighbour};
+ghost use Rattle.lattice.specs.inner.Site.{Sited};
 ghost use Rattle.moving.specs.Label.{labels, isZero};
-ghost use Rattle.moving.specs.Reading.{labelAfter, live, violatedBy};
+ghost use Rattle.moving.specs.Reading.{labelAfter, live};
 ghost use Rattle.moving.specs.Moving.{stateAt, stateOf};
 ghost use Rattle.moving.specs.Block.{blockOf, readingOf, Tabled};
 ghost use Rattle.filling.specs.Fill.{movedCount};
 ghost use Rattle.ground.specs.inner.Lines.{Line};
-ghost use Rattle.warp.specs.inner.Quick.{Spared};
+ghost use Rattle.warp.specs.inner.Quick.{liveAlong, Spared};
 
 // A point's label is zero: it has moved, or its sample is zero.
 fn is_faded(samples: &[i16], state: &[u8], p: usize) -> bool
@@ -49,55 +49,41 @@ fn is_live(samples: &[i16], state: &[u8], p: usize, q: usize) -> bool
     !is_faded(samples, state, q)
 }
 
-// The edge by a code exists, its cut is live and violates the point. The byte is asked first: then few
-// neighbours are looked up.
-fn is_violated(
-    s: Sizes,
-    samples: &[i16],
-    cuts: &[u8],
-    state: &[u8],
-    q: Site,
-    code: usize,
-    at: usize,
-) -> bool
-    requires { ⌜ Tabled (blockOf s (now samples) (now cuts)) ⌝ }
-    requires { ⌜ length (now state) ≡ points s ⌝ }
+// The edge from a point by a code exists, and its cut is live.
+fn is_live_by(s: Sizes, samples: &[i16], state: &[u8], q: Site, code: usize) -> bool
+    requires { ⌜ Sized s ⌝ }
+    requires { ⌜ (length (now samples) ≡ points s) × (length (now state) ≡ points s) ⌝ }
     requires { ⌜ Code code ⌝ }
     requires { ⌜ Sited s q ⌝ }
-    requires { ⌜ ((e : ℕ) → near s (q .kind) (index q) code ≡ At e → at ≡ edgeByte (q .own) code e) ⌝ }
-    ensures { λ r. ⌜ r ≡ violatedBy (readingOf (blockOf s (now (samples .entry)) (now (cuts .entry))))
-        (now (state .entry)) (q .own) code ⌝ }
+    ensures { λ r. ⌜ r ≡ liveAlong (labels (now (samples .entry))) (now (state .entry)) (q .own) (neighbour s (q .own) code) ⌝ }
 {
-    let t = bytes::cut_at(cuts, at);
-    if violation::violates(code, t) {
-        let far = edges::neighbour(s, q, code);
-        match far {
-            Near::Nothing => false,
-            Near::At(e) => is_live(samples, state, q.own, e),
-        }
-    } else {
-        false
+    let far = edges::neighbour(s, q, code);
+    match far {
+        Near::Nothing => false,
+        Near::At(e) => is_live(samples, state, q.own, e),
     }
 }
 
 // The first code whose byte violates the point, whatever the labels, or 15. No test ends early, so
 // that the compiler unrolls the loop and branches nowhere.
-fn first_near(cuts: &[u8], at: [usize; 14]) -> u8
+fn first_near(cuts: &[u8], at: [usize; 14]) -> usize
     ensures { λ r. ⌜ (1 ≤ r) × (r ≤ 15) ⌝ }
     ensures { λ r. ⌜ Spared (now (cuts .entry)) at r ⌝ }
 {
     let mut first: usize = 15;
     for k in 0..14 {
         let code = 14 - k;
-        if violation::violates(code, bytes::cut_at(cuts, at[code - 1])) {
+        let v = violation::violation(code, bytes::cut_at(cuts, at[code - 1]));
+        if violation::is_violated(v) {
             first = code;
         }
     }
-    first as u8
+    first
 }
 
-// The points of a line take their turns; the search of a point stops at the first code that
-// violates, and passes over those whose bytes do not. The answer counts the points that move.
+// The points of a line take their turns; the search of a point goes through all codes, but for those
+// before the first whose byte violates, and keeps the nearest. Bytes are asked first: then few
+// neighbours are looked up. The answer counts the points that move.
 fn warp_line(s: Sizes, samples: &[i16], cuts: &[u8], state: &mut [u8], q: Site) -> usize
     requires { ⌜ Tabled (blockOf s (now samples) (now cuts)) ⌝ }
     requires { ⌜ Line s (q .own) q ⌝ }
@@ -114,19 +100,20 @@ fn warp_line(s: Sizes, samples: &[i16], cuts: &[u8], state: &mut [u8], q: Site) 
         let p = own + x;
         let here = walk::along(q, x);
         let at = bytes::offsets(s, here);
-        let mut code = first_near(cuts, at);
-        let found = 'search: loop {
-            if 14 < code {
-                break 'search 0;
+        let first = first_near(cuts, at);
+        let mut found: usize = 0;
+        let mut best = Violation::No;
+        for code in first..15 {
+            let v = violation::violation(code, bytes::cut_at(cuts, at[code - 1]));
+            if violation::is_nearer(v, best) {
+                if is_live_by(s, samples, state, here, code) {
+                    best = v;
+                    found = code;
+                }
             }
-            let c = code as usize;
-            if is_violated(s, samples, cuts, state, here, c, at[c - 1]) {
-                break 'search code;
-            }
-            code += 1;
-        };
+        }
         if found != 0 {
-            state[p] = found;
+            state[p] = found as u8;
             moved += 1;
         }
     }

@@ -1,16 +1,24 @@
--- What the quick tests of a point compute and say. They never decide that a point moves, only that nothing has to be searched.
+-- What the tests of a point compute and say. The quick ones never decide that a point moves, only that nothing has to be searched.
 use Prim.Native.Nat.{ℕ, _+_, _*_, _-_, _≤_, _<_}
 use mathlib.Core.Path.{_≡_}
-use mathlib.Core.Bool.{false}
+use mathlib.Core.Bool.{Bool, false}
 use mathlib.Core.List.{List}
 use lib.ListN.{getD}
 use Rattle.lattice.specs.declared.Sizes.{Sizes}
-use Rattle.lattice.specs.declared.Near.the-variants.{At}
+use Rattle.lattice.specs.declared.Near.{Near}
+use Rattle.lattice.specs.declared.Near.the-variants.{At, Nothing}
 use Rattle.lattice.specs.declared.Site.{Site}
 use Rattle.lattice.specs.Direction.{Code}
 use Rattle.lattice.specs.Edge.{near, neighbour, edgeByte}
 use Rattle.lattice.specs.inner.Site.{index}
+use Rattle.moving.specs.declared.Label.{Label}
 use Rattle.moving.specs.Violation.{rule1, violates}
+use Rattle.moving.specs.Reading.{live}
+
+-- the edge from p to this neighbour exists, and its cut is live
+unfoldable pub liveAlong : (ℕ → Label) → List ℕ → ℕ → Near → Bool
+liveAlong label codes p Nothing = false
+liveAlong label codes p (At q) = live label codes p q
 
 -- where the bytes of a point's fourteen edges stand, by code, each if its edge exists
 pub record Offsets (s : Sizes) (q : Site) (at : List ℕ) : Type 0 where

@@ -3,7 +3,7 @@ use Prim.Native.Nat.{_-_, _<_}
 use native.Mathlib.Omega.{arith}
 use mathlib.Core.Path.{sym, ap, _∙_}
 use mathlib.Core.Logic.{⊎-elim}
-use Rattle.moving.specs.Violation.{rule1, violates}
+use Rattle.moving.specs.Violation.{rule1, violated, violates}
 use Rattle.warp.proofs.Searching.{Nearest, nearest-found, nearest-on}
 use borrow.Author.Needs.{needs}
 use Rattle.warp.proofs.moves.first_near.Statement.{statement}
@@ -33,8 +33,11 @@ array-read-cut-at c = omega arith
 cut-at-requires : tie.Need-cut-at-requires Inv-loop μ-loop
 cut-at-requires c κs = search needs
 
-violates-requires : tie.Need-violates-requires Inv-loop μ-loop
-violates-requires c κs = record { low = omega arith; high = omega arith }
+violation-requires : tie.Need-violation-requires Inv-loop μ-loop
+violation-requires c κs = record { low = omega arith; high = omega arith }
+
+is-violated-requires : tie.Need-is-violated-requires Inv-loop μ-loop
+is-violated-requires c κs = search needs
 
 add-k : tie.Need-add-k Inv-loop μ-loop
 add-k c = omega arith
@@ -44,16 +47,15 @@ loop-less c = omega arith
 
 loop-again : tie.Need-loop-again Inv-loop μ-loop
 loop-again c =
-    let i = c .before .before .before .before .loop .inv in
-    let l : c .before .before .before .before .loop .k < 14 = omega arith in
+    let at-cut = c .before .before .before in
+    let at-loop = at-cut .before .before in
+    let i = at-loop .loop .inv in
+    let l : at-loop .loop .k < 14 = omega arith in
     ⊎-elim (λ w. nearest-found i l (w .1))
     (λ w.
-    let byte = sym (c .before .before .cut-at .ensures) in
-    nearest-on i l (w .1) (ap (violates rule1 _) byte ∙ sym (c .before .violates .ensures) ∙ w .0 .left))
+    let asked = ap violated (sym (c .before .before .violation .ensures)) ∙ sym (c .before .is-violated .ensures) ∙ w .0 .left in
+    nearest-on i l (w .1) (ap (violates rule1 _) (sym (at-cut .cut-at .ensures)) ∙ asked))
     (c .if1 .came)
-
-cast-result : tie.Need-cast-result Inv-loop μ-loop
-cast-result c = omega (arith, c .before .loop .inv .high)
 
 returns : tie.Need-returns Inv-loop μ-loop
 returns c =
@@ -72,9 +74,9 @@ first-near-spec =
     mul-cut-at
     array-read-cut-at
     cut-at-requires
-    violates-requires
+    violation-requires
+    is-violated-requires
     add-k
     loop-less
     loop-again
-    cast-result
     returns)

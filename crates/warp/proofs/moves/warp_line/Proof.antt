@@ -1,6 +1,6 @@
 -- The outer loop's invariant: so many points of the line have had their turns. The inner one's: the search of the point has come to a code.
 -- Assumes nothing.
-use Prim.Native.Nat.{_-_}
+use Prim.Native.Nat.{_-_, _≤_}
 use native.Mathlib.Omega.{arith}
 use mathlib.Core.Path.{_≡_, refl, sym, ap, _∙_}
 use mathlib.Core.Logic.{⊎-elim}
@@ -8,14 +8,26 @@ use lib.ListN.{length}
 use Rattle.lattice.specs.Direction.{Code}
 use Rattle.lattice.proofs.Bounds.{points-small}
 use Rattle.lattice.proofs.Sites.{numbers-small}
+use Rattle.moving.specs.declared.Violation.{Violation}
+use Rattle.moving.specs.Nearest.{nearer}
 use Rattle.moving.specs.Block.{blockOf, readingOf}
 use Rattle.moving.proofs.Moved.{stateAt-long}
 use Rattle.ground.proofs.Points.{sited}
 use Rattle.ground.proofs.Lines.{line-stands, line-fits}
 use Rattle.ground.proofs.Sites.{along-sited, along-own}
 use Rattle.warp.proofs.Counted.{counted-few}
-use Rattle.warp.proofs.Searching.{Searching, at-point, search-on, search-ends, search-finds}
-use Rattle.warp.proofs.Quiet.{search-from}
+use Rattle.warp.proofs.Searching.{
+  Searching,
+  by-far,
+  when-live,
+  when-dead,
+  live-at,
+  search-nearer,
+  search-keeps,
+  search-few,
+  search-ends,
+}
+use Rattle.warp.proofs.Quiet.{offset-byte, search-from}
 use Rattle.warp.proofs.Turning.{
   Walked,
   walked-starts,
@@ -29,11 +41,12 @@ use borrow.Author.Needs.{needs}
 use Rattle.warp.proofs.moves.warp_line.Statement.{statement}
 use Rattle.warp.proofs.moves.warp_line.Tie as tie
 
-abbrev Inv-search : tie.InvT-search
-Inv-search s samples cuts state q own m moved x p here at code₀ code = Searching (readingOf (blockOf s samples cuts)) state p code
+abbrev Inv-loop2 : tie.InvT-loop2
+Inv-loop2 s samples cuts state q own m moved x p here at first found₀ best₀ code₀ found best code =
+    Searching (readingOf (blockOf s samples cuts)) state p found best code
 
-abbrev μ-search : tie.MeasureT-search
-μ-search s samples cuts state q own m moved x p here at code₀ code = 15 - code
+abbrev μ-loop2 : tie.MeasureT-loop2
+μ-loop2 s samples cuts state q own m moved x p here at first found₀ best₀ code₀ found best code = 15 - code
 
 abbrev Inv-loop : tie.InvT-loop
 Inv-loop s samples cuts state₀ q own m moved₀ x₀ state moved x = Walked (readingOf (blockOf s samples cuts)) own m state₀ state moved x
@@ -41,13 +54,13 @@ Inv-loop s samples cuts state₀ q own m moved₀ x₀ state moved x = Walked (r
 abbrev μ-loop : tie.MeasureT-loop
 μ-loop s samples cuts state₀ q own m moved₀ x₀ state moved x = m - x
 
-line-length-requires : tie.Need-line-length-requires Inv-search μ-search Inv-loop μ-loop
+line-length-requires : tie.Need-line-length-requires Inv-loop2 μ-loop2 Inv-loop μ-loop
 line-length-requires c κs = c .before .before .pre .0 .sized
 
-loop-holds : tie.Need-loop-holds Inv-search μ-search Inv-loop μ-loop
+loop-holds : tie.Need-loop-holds Inv-loop2 μ-loop2 Inv-loop μ-loop
 loop-holds c = walked-starts _ (c .before .before .before .pre .1 .1)
 
-add-p : tie.Need-add-p Inv-search μ-search Inv-loop μ-loop
+add-p : tie.Need-add-p Inv-loop2 μ-loop2 Inv-loop μ-loop
 add-p c =
     let at-length = c .before .before in
     let at-start = at-length .before .before .before in
@@ -56,7 +69,7 @@ add-p c =
     let small = numbers-small (a .s) (a .q) sized (sited (line-stands (at-start .pre .1 .0))) in
     omega (arith, small, at-length .line-length .ensures .1)
 
-along-requires : tie.Need-along-requires Inv-search μ-search Inv-loop μ-loop
+along-requires : tie.Need-along-requires Inv-loop2 μ-loop2 Inv-loop μ-loop
 along-requires c κs =
     let at-length = c .before .before in
     let at-start = at-length .before .before .before in
@@ -65,18 +78,18 @@ along-requires c κs =
     let small = numbers-small (a .s) (a .q) sized (sited (line-stands (at-start .pre .1 .0))) in
     omega (arith, small, at-length .line-length .ensures .1)
 
-offsets-requires : tie.Need-offsets-requires Inv-search μ-search Inv-loop μ-loop
+offsets-requires : tie.Need-offsets-requires Inv-loop2 μ-loop2 Inv-loop μ-loop
 offsets-requires c κs =
     let at-length = c .before .before .before in
     let at-start = at-length .before .before .before in
     let len = at-length .line-length .ensures .0 in
     (at-start .pre .0 .sized, along-sited (at-start .pre .1 .0) (omega arith) (c .along .ensures))
 
-first-near-requires : tie.Need-first-near-requires Inv-search μ-search Inv-loop μ-loop
+first-near-requires : tie.Need-first-near-requires Inv-loop2 μ-loop2 Inv-loop μ-loop
 first-near-requires c κs = search needs
 
-search-holds : tie.Need-search-holds Inv-search μ-search Inv-loop μ-loop
-search-holds c =
+loop2-holds : tie.Need-loop2-holds Inv-loop2 μ-loop2 Inv-loop μ-loop
+loop2-holds c =
     let at-along = c .before .before in
     let at-length = at-along .before .before .before in
     let at-start = at-length .before .before .before in
@@ -87,52 +100,79 @@ search-holds c =
     let near = c .first-near .ensures in
     search-from _ _ _ _ refl own (at-start .pre .0 .sized) here (c .before .offsets .ensures) (near .0) (near .1)
 
-cast-c : tie.Need-cast-c Inv-search μ-search Inv-loop μ-loop
-cast-c c = omega arith
+sub-cut-at : tie.Need-sub-cut-at Inv-loop2 μ-loop2 Inv-loop μ-loop
+sub-cut-at c = omega (arith, c .before .loop2 .inv .low)
 
-sub-is-violated : tie.Need-sub-is-violated Inv-search μ-search Inv-loop μ-loop
-sub-is-violated c = omega (arith, c .before .before .search .inv .low)
+mul-cut-at : tie.Need-mul-cut-at Inv-loop2 μ-loop2 Inv-loop μ-loop
+mul-cut-at c = omega arith
 
-mul-is-violated : tie.Need-mul-is-violated Inv-search μ-search Inv-loop μ-loop
-mul-is-violated c = omega arith
+array-read-cut-at : tie.Need-array-read-cut-at Inv-loop2 μ-loop2 Inv-loop μ-loop
+array-read-cut-at c = omega (arith, c .before .loop2 .inv .low)
 
-array-read-is-violated : tie.Need-array-read-is-violated Inv-search μ-search Inv-loop μ-loop
-array-read-is-violated c = omega (arith, c .before .before .search .inv .low)
+cut-at-requires : tie.Need-cut-at-requires Inv-loop2 μ-loop2 Inv-loop μ-loop
+cut-at-requires c κs = search needs
 
-is-violated-requires : tie.Need-is-violated-requires Inv-search μ-search Inv-loop μ-loop
-is-violated-requires c κs =
-    let at-search = c .before .before in
-    let at-offsets = at-search .before .before in
-    let at-along = at-offsets .before in
+violation-requires : tie.Need-violation-requires Inv-loop2 μ-loop2 Inv-loop μ-loop
+violation-requires c κs = record { low = c .before .before .loop2 .inv .low; high = omega arith }
+
+is-nearer-requires : tie.Need-is-nearer-requires Inv-loop2 μ-loop2 Inv-loop μ-loop
+is-nearer-requires c κs = search needs
+
+is-live-by-requires : tie.Need-is-live-by-requires Inv-loop2 μ-loop2 Inv-loop μ-loop
+is-live-by-requires c κs =
+    let at-test = c .before .before .before .before .before in
+    let at-search = at-test .before in
+    let at-along = at-search .before .before .before in
     let at-loop = at-along .before .before in
     let at-length = at-loop .before in
     let at-start = at-length .before .before .before in
+    let block = at-start .pre .0 in
     let len = at-length .line-length .ensures .0 in
-    let i = at-search .search .inv in
-    let l = i .low in
-    let code : Code (at-search .search .code) = record { low = i .low; high = c .before .if1 .left } in
+    let code : Code (at-search .loop2 .code) = record { low = at-search .loop2 .inv .low; high = omega arith } in
     let here = along-sited (at-start .pre .1 .0) (omega arith) (at-along .along .ensures) in
     let long = walked-long _ (at-loop .loop .inv) (at-along .before .loop-test .taken) in
-    (at-start .pre .0, (long, (code, (here, at-offsets .offsets .ensures .byte (at-search .search .code) code))))
+    (block .sized, ((block .samples-long, long), (code, here)))
 
-add-code : tie.Need-add-code Inv-search μ-search Inv-loop μ-loop
+add-code : tie.Need-add-code Inv-loop2 μ-loop2 Inv-loop μ-loop
 add-code c = omega arith
 
-search-less : tie.Need-search-less Inv-search μ-search Inv-loop μ-loop
-search-less c = omega arith
+loop2-less : tie.Need-loop2-less Inv-loop2 μ-loop2 Inv-loop μ-loop
+loop2-less c = omega arith
 
-search-again : tie.Need-search-again Inv-search μ-search Inv-loop μ-loop
-search-again c =
-    let at-search = c .before .before .before .before in
-    let at-along = at-search .before .before .before in
+loop2-again : tie.Need-loop2-again Inv-loop2 μ-loop2 Inv-loop μ-loop
+loop2-again c =
+    let at-cut = c .before .before .before in
+    let at-search = at-cut .before .before in
+    let at-offsets = at-search .before .before in
+    let at-along = at-offsets .before in
     let at-length = at-along .before .before .before in
     let at-start = at-length .before .before .before in
+    let a = at-start .args in
+    let m = readingOf (blockOf (a .s) (a .samples .now) (a .cuts .now)) in
+    let line = at-start .pre .1 .0 in
     let len = at-length .line-length .ensures .0 in
-    let own = along-own (at-start .pre .1 .0) (omega arith) (at-along .along .ensures) in
-    search-on (at-search .search .inv) (c .before .before .before .if1 .left)
-    (at-point _ _ _ (c .before .is-violated .ensures) own (c .if2 .left))
+    let i = at-search .loop2 .inv in
+    let k = at-search .loop2 .code in
+    let l : k ≤ 14 = omega arith in
+    let own = along-own line (omega arith) (at-along .along .ensures) in
+    let here = along-sited line (omega arith) (at-along .along .ensures) in
+    let code : Code k = record { low = i .low; high = l } in
+    let byte = offset-byte m _ _ own (at-start .pre .0 .sized) here (at-offsets .offsets .ensures) code (at-cut .cut-at .ensures) in
+    let is = c .before .before .violation .ensures in
+    let asked = sym (c .before .is-nearer .ensures) in
+    ⊎-elim
+    (λ w.
+    let live = live-at m _ k own (sym (w .2 .ensures) ∙ w .3 .taken) in
+    search-nearer i l (is ∙ when-live m _ _ k byte live) (asked ∙ w .0 .taken) (w .4) (w .5))
+    (⊎-elim
+    (λ w. search-keeps i l (when-dead m _ _ k byte _ (live-at m _ k own (sym (w .2 .ensures) ∙ w .3 .left))) (w .4) (w .5))
+    (λ w. search-keeps i l (by-far m _ _ k byte _ (ap (λ (v : Violation). nearer v (at-search .loop2 .best)) (sym is) ∙ asked ∙ w .0 .left)) (w .1) (w .2)))
+    (c .if1 .came)
 
-slice-write-state : tie.Need-slice-write-state Inv-search μ-search Inv-loop μ-loop
+cast-state : tie.Need-cast-state Inv-loop2 μ-loop2 Inv-loop μ-loop
+cast-state c = omega (arith, search-few (c .before .before .loop2 .inv))
+
+slice-write-state : tie.Need-slice-write-state Inv-loop2 μ-loop2 Inv-loop μ-loop
 slice-write-state c =
     let at-test = c .before .before .before .before .before .before in
     let at-loop = at-test .before in
@@ -142,7 +182,7 @@ slice-write-state c =
     let fits = line-fits (at-start .pre .1 .0) (at-start .pre .0 .sized) in
     walked-inside _ (at-loop .loop .inv) (at-test .loop-test .taken) (omega arith)
 
-add-moved : tie.Need-add-moved Inv-search μ-search Inv-loop μ-loop
+add-moved : tie.Need-add-moved Inv-loop2 μ-loop2 Inv-loop μ-loop
 add-moved c =
     let at-test = c .before .before .before .before .before .before in
     let at-loop = at-test .before in
@@ -152,13 +192,13 @@ add-moved c =
     let few = counted-few (at-loop .loop .state) in
     omega (arith, i .counted, few, long, points-small (at-start .args .s) (at-start .pre .0 .sized))
 
-add-x : tie.Need-add-x Inv-search μ-search Inv-loop μ-loop
+add-x : tie.Need-add-x Inv-loop2 μ-loop2 Inv-loop μ-loop
 add-x c = omega arith
 
-loop-less : tie.Need-loop-less Inv-search μ-search Inv-loop μ-loop
+loop-less : tie.Need-loop-less Inv-loop2 μ-loop2 Inv-loop μ-loop
 loop-less c = omega arith
 
-loop-again : tie.Need-loop-again Inv-search μ-search Inv-loop μ-loop
+loop-again : tie.Need-loop-again Inv-loop2 μ-loop2 Inv-loop μ-loop
 loop-again c =
     let at-search = c .before .before in
     let at-along = at-search .before .before .before in
@@ -168,23 +208,18 @@ loop-again c =
     let len = at-length .line-length .ensures .0 in
     let h = at-along .before .loop-test .taken in
     let i = at-loop .loop .inv in
-    let j = at-search .search .inv in
     let fits = line-fits (at-start .pre .1 .0) (at-start .pre .0 .sized) in
-    let own = along-own (at-start .pre .1 .0) (omega arith) (at-along .along .ensures) in
-    let chosen =
-    ⊎-elim (λ w. search-ends j (w .0 .taken) ∙ sym (w .1))
-    (λ w. search-finds j (w .0 .left) (at-point _ _ _ (w .2 .ensures) own (w .3 .taken)) ∙ sym (w .4))
-    (c .before .if1 .came) in
+    let chosen = search-ends (at-search .loop2 .inv) (c .before .loop2-test .left) in
     ⊎-elim (λ w. walked-moves _ i h (omega arith) chosen (w .0 .taken) (w .1) (w .2))
     (λ w. walked-rests _ i h chosen (w .0 .left) (w .1) (w .2)) (c .if3 .came)
 
-same-length : tie.Need-same-length Inv-search μ-search Inv-loop μ-loop
+same-length : tie.Need-same-length Inv-loop2 μ-loop2 Inv-loop μ-loop
 same-length c =
     let at-loop = c .before in
     let at-start = at-loop .before .before .before .before in
     ap length (at-loop .loop .inv .is) ∙ stateAt-long _ _ ∙ sym (stateAt-long _ _) ∙ sym (ap length (at-start .pre .1 .1))
 
-returns : tie.Need-returns Inv-search μ-search Inv-loop μ-loop
+returns : tie.Need-returns Inv-loop2 μ-loop2 Inv-loop μ-loop
 returns c =
     let at-loop = c .before in
     let at-length = at-loop .before in
@@ -195,8 +230,8 @@ pub warp-line-spec : {M : Type 1} → statement M
 warp-line-spec =
     tie.close
     (tie.spec
-    Inv-search
-    μ-search
+    Inv-loop2
+    μ-loop2
     Inv-loop
     μ-loop
     line-length-requires
@@ -205,15 +240,18 @@ warp-line-spec =
     along-requires
     offsets-requires
     first-near-requires
-    search-holds
-    cast-c
-    sub-is-violated
-    mul-is-violated
-    array-read-is-violated
-    is-violated-requires
+    loop2-holds
+    sub-cut-at
+    mul-cut-at
+    array-read-cut-at
+    cut-at-requires
+    violation-requires
+    is-nearer-requires
+    is-live-by-requires
     add-code
-    search-less
-    search-again
+    loop2-less
+    loop2-again
+    cast-state
     slice-write-state
     add-moved
     add-x
