@@ -9,7 +9,7 @@ use Rattle.lattice.specs.Counts.{points}
 use Rattle.lattice.specs.Direction.{step}
 use Rattle.lattice.proofs.Bounds.{points-small}
 use Rattle.lattice.proofs.Edge.{neighbour-lt}
-use Rattle.moving.specs.Violation.{measured}
+use Rattle.moving.specs.Violation.{measured, violated}
 use Rattle.ground.proofs.Sites.{siting, byte-lt}
 use Rattle.ground.specs.inner.Places.{along}
 use Rattle.places.proofs.Decoded.{site-leads, site-rest, site-le}
@@ -61,15 +61,18 @@ shared-slice-read-t c =
     let byte = byte-lt (points (a .s)) (a .p) (a .code) _ (pre .1 .1 .1) (pre .1 .1 .0) far in
     omega (arith, pre .1 .0, at-byte .edge-byte .ensures)
 
-violates-requires : tie.Need-violates-requires
-violates-requires c κs = search needs
+violation-requires : tie.Need-violation-requires
+violation-requires c κs = search needs
+
+is-violated-requires : tie.Need-is-violated-requires
+is-violated-requires c κs = search needs
 
 moved-place-requires : tie.Need-moved-place-requires
 moved-place-requires c κs = search needs
 
 answered-requires : tie.Need-answered-requires
 answered-requires c κs =
-    let at-cut = c .before .before .before in
+    let at-cut = c .before .before .before .before in
     let at-byte = at-cut .before in
     let at-far = at-byte .before .before in
     let at-near = at-far .before .before in
@@ -94,7 +97,7 @@ returns c =
     let at-moved = c .before in
     let at-if = at-moved .before in
     let at-test = at-if .before in
-    let at-cut = at-test .before in
+    let at-cut = at-test .before .before in
     let at-byte = at-cut .before in
     let at-far = at-byte .before .before in
     let at-near = at-far .before .before in
@@ -110,10 +113,10 @@ returns c =
     let rests = at-rest .rest-place .ensures .0 ∙ site-rest (a .s) (a .p) _ site in
     let led = ap (λ (f : Axis → ℤ). along f (step (a .code)) (measured (a .code) t)) rests in
     let byte = ap (λ (o : ℕ). getD (a .cuts .now) o 0) (at-byte .edge-byte .ensures) in
-    let test = sym (at-test .violates .ensures) ∙ at-if .if1 .taken in
+    let asked = ap violated (sym (at-test .before .violation .ensures)) ∙ sym (at-test .is-violated .ensures) in
     c .answered .ensures
     ∙ moved-answer (a .s) (a .cuts .now) (a .p) (a .code) _ t to byte (pre .1 .1 .0) (pre .1 .1 .1)
-    (omega (arith, at-cut .shared-slice-known2 .given o)) test _ (at-moved .moved-place .ensures .0 ∙ led)
+    (omega (arith, at-cut .shared-slice-known2 .given o)) (asked ∙ at-if .if1 .taken) _ (at-moved .moved-place .ensures .0 ∙ led)
 
 refused-requires : tie.Need-refused-requires
 refused-requires c κs = search needs
@@ -128,7 +131,7 @@ returns-2 : tie.Need-returns-2
 returns-2 c =
     let at-if = c .before in
     let at-test = at-if .before in
-    let at-byte = at-test .before .before in
+    let at-byte = at-test .before .before .before in
     let at-far = at-byte .before .before in
     let at-near = at-far .before .before in
     let at-site = at-near .before .before in
@@ -137,8 +140,8 @@ returns-2 c =
     let to = site-leads (a .s) (a .p) _ site (a .code) (at-near .neighbour .ensures) (at-far .far .given .1) in
     let t = getD (a .cuts .now) (at-byte .edge-byte .result) 0 in
     let byte = ap (λ (o : ℕ). getD (a .cuts .now) o 0) (at-byte .edge-byte .ensures) in
-    c .refused .ensures
-    ∙ moved-far (a .s) (a .cuts .now) (a .p) (a .code) _ t to byte (sym (at-test .violates .ensures) ∙ at-if .if1 .left)
+    let asked = ap violated (sym (at-test .before .violation .ensures)) ∙ sym (at-test .is-violated .ensures) in
+    c .refused .ensures ∙ moved-far (a .s) (a .cuts .now) (a .p) (a .code) _ t to byte (asked ∙ at-if .if1 .left)
 
 returns-3 : tie.Need-returns-3
 returns-3 c =
@@ -160,7 +163,8 @@ moved-point-spec =
     enum-known-far
     edge-byte-requires
     shared-slice-read-t
-    violates-requires
+    violation-requires
+    is-violated-requires
     moved-place-requires
     answered-requires
     returns
