@@ -3,11 +3,12 @@
 //! Follows document 01, "The block" (which bytes must be non-zero) and
 //! "Calls and refusals" (5, then the lowest byte that is a 6 or a 7).
 //! Everything goes line by line; a line or a point whose bytes must all be
-//! zero is tested as a group. Since every cut byte is looked at here, points
-//! that some cut violates are marked on the way, and moving need not search
-//! the others.
+//! zero is tested as a group. Since every cut byte is looked at here, every
+//! point is marked on the way with the nearest cut that violates it
+//! ([`crate::mark`]), and moving need only search where that cut is no longer
+//! live.
 
-use crate::cut::{violates, End};
+use crate::mark::{MARKS, UNMARKED};
 use crate::refusal;
 use crate::strides::{Grids, Line, Reach, LONGEST_LINE};
 
@@ -17,10 +18,6 @@ pub const ZERO: u8 = 0;
 pub const PLUS: u8 = 1;
 /// Label of a point in the air.
 pub const MINUS: u8 = 2;
-/// The bits of a label byte that hold the label.
-pub const LABEL: u8 = 3;
-/// Set beside the label if some cut, live at the outset, violates the point.
-pub const MARK: u8 = 4;
 
 /// A refused cut byte.
 #[derive(Clone, Copy, Debug, PartialEq, Eq)]
@@ -56,8 +53,10 @@ pub fn lowest_plus_on_rim(grids: &Grids, labels: &[u8]) -> Option<usize> {
     None
 }
 
-/// Tests every cut byte and marks the points that a cut violates.
-pub fn test_cuts(grids: &Grids, labels: &mut [u8], cuts: &[u8]) -> Result<(), WrongByte> {
+/// Tests every cut byte and answers the marks of all points, or no marks at
+/// all if the block has no cuts.
+pub fn test_cuts(grids: &Grids, labels: &[u8], cuts: &[u8]) -> Result<Vec<u32>, WrongByte> {
+    let mut marks = Vec::new();
     for line in grids.lines() {
         let reaches = line.forward();
         let bytes = &cuts[7 * line.first..7 * (line.first + line.count())];
@@ -65,12 +64,13 @@ pub fn test_cuts(grids: &Grids, labels: &mut [u8], cuts: &[u8]) -> Result<(), Wr
         let needs = &mut needs[..line.count()];
         find_needs(&line, &reaches, labels, needs);
         if any_bit(needs) {
-            test_line(&line, &reaches, needs, bytes, labels)?;
+            marks.resize(labels.len(), UNMARKED);
+            test_line(&line, &reaches, needs, bytes, &mut marks)?;
         } else if any_bit(bytes) {
             return Err(stray_among(bytes, 7 * line.first));
         }
     }
-    Ok(())
+    Ok(marks)
 }
 
 /// Sets bit d of a point's need if its edge in direction d must be cut.
@@ -83,7 +83,7 @@ fn find_needs(line: &Line, reaches: &[Reach; 7], labels: &[u8], needs: &mut [u8]
         let starts = &labels[starts..starts + count];
         let ends = &labels[ends..ends + count];
         for ((need, start), end) in needs.iter_mut().zip(starts).zip(ends) {
-            let opposite = (start | end) & LABEL == PLUS | MINUS;
+            let opposite = start | end == PLUS | MINUS;
             *need |= u8::from(opposite) << direction;
         }
     }
@@ -99,7 +99,7 @@ fn test_line(
     reaches: &[Reach; 7],
     needs: &[u8],
     bytes: &[u8],
-    labels: &mut [u8],
+    marks: &mut [u32],
 ) -> Result<(), WrongByte> {
     let (sevens, _) = bytes.as_chunks::<7>();
     for (index, (&need, seven)) in needs.iter().zip(sevens).enumerate() {
@@ -116,7 +116,7 @@ fn test_line(
                 offset: 7 * point + direction,
             });
         }
-        mark_violated(point, reaches, need, seven, labels);
+        mark_violated(point, reaches, need, seven, marks);
     }
     Ok(())
 }
@@ -126,20 +126,19 @@ fn bits_of_cuts(seven: &[u8; 7]) -> u8 {
     (0..7).fold(0, |bits, d| bits | u8::from(seven[d] != 0) << d)
 }
 
-/// Marks the points that the cuts of one point's edges violate. Which cuts do
-/// is hard to foresee, so the marks are set without branches.
-fn mark_violated(point: usize, reaches: &[Reach; 7], need: u8, seven: &[u8; 7], labels: &mut [u8]) {
+/// Marks the points that the cuts of one point's edges violate.
+fn mark_violated(point: usize, reaches: &[Reach; 7], need: u8, seven: &[u8; 7], marks: &mut [u32]) {
     let mut left = need;
-    let mut own = false;
+    let mut own = marks[point];
     while left != 0 {
         let direction = left.trailing_zeros() as usize;
-        let t = seven[direction];
-        own |= violates(t, direction, End::Start);
-        let other = violates(t, direction, End::Far);
-        labels[reaches[direction].other_end(point)] |= u8::from(other) * MARK;
+        let t = usize::from(seven[direction]);
+        own = own.min(MARKS[direction][t]);
+        let other = &mut marks[reaches[direction].other_end(point)];
+        *other = (*other).min(MARKS[direction + 7][t]);
         left &= left - 1;
     }
-    labels[point] |= u8::from(own) * MARK;
+    marks[point] = own;
 }
 
 /// The refusal of the first non-zero byte among some that must all be zero.

@@ -1,7 +1,7 @@
 //! Cuts: when one violates a point, what a code means, where a cut lies.
 //!
 //! Follows document 01, "The block" (places) and "Moving points" (violation
-//! and codes).
+//! and codes), and request F-2 of document 02 (the squared distance).
 
 use crate::lattice::{is_long, Edge, Lattice, DIRECTIONS};
 
@@ -18,6 +18,16 @@ pub const fn limit(direction: usize) -> u32 {
     }
 }
 
+/// The square of the direction's length, in doubled coordinates: 4 on a long
+/// edge, 3 on a short one.
+pub const fn squared_length(direction: usize) -> u32 {
+    if is_long(direction) {
+        4
+    } else {
+        3
+    }
+}
+
 /// Which end of its edge a point is.
 #[derive(Clone, Copy, Debug, PartialEq, Eq)]
 pub enum End {
@@ -27,14 +37,24 @@ pub enum End {
     Far,
 }
 
-/// Whether a cut `t` 256ths along from the start violates the named end.
+/// The test of violation: the squared distance between a cut `t` 256ths along
+/// from the start and the named end if the cut violates that end, or none.
 /// Byte 0 is no cut and violates nothing.
-pub fn violates(t: u8, direction: usize, end: End) -> bool {
-    let distance = match end {
-        End::Start => u32::from(t),
-        End::Far => 256 - u32::from(t),
+///
+/// With t counted from the end, the squared distance is 4 times t squared on a
+/// long edge and 3 times t squared on a short one, at most 33,075. Equal
+/// distances mean two long or two short edges with equal t: no two squares of
+/// whole numbers above zero are as 3 to 4.
+pub const fn violation(t: u8, direction: usize, end: End) -> Option<u32> {
+    let from_end = match end {
+        End::Start => t as u32,
+        End::Far => 256 - t as u32,
     };
-    t != 0 && distance <= limit(direction)
+    if t != 0 && from_end <= limit(direction) {
+        Some(squared_length(direction) * from_end * from_end)
+    } else {
+        None
+    }
 }
 
 /// What a code from 1 to 14 names at a point: the edge, and which end of it
@@ -87,12 +107,55 @@ mod tests {
     fn limits_are_measured_from_each_end() {
         for (direction, near, far) in [(0, 63, 193), (2, 63, 193), (3, 105, 151), (6, 105, 151)] {
             for t in 1..=255 {
-                assert_eq!(violates(t, direction, End::Start), t <= near);
-                assert_eq!(violates(t, direction, End::Far), t >= far);
+                let [start, other] = [End::Start, End::Far].map(|end| violation(t, direction, end));
+                assert_eq!(start.is_some(), t <= near);
+                assert_eq!(other.is_some(), t >= far);
             }
-            assert!(!violates(0, direction, End::Start));
-            assert!(!violates(0, direction, End::Far));
+            assert_eq!(violation(0, direction, End::Start), None);
+            assert_eq!(violation(0, direction, End::Far), None);
         }
+    }
+
+    #[test]
+    fn distances_are_squared_and_counted_from_each_end() {
+        for direction in 0..3 {
+            assert_eq!(violation(60, direction, End::Start), Some(14_400));
+            assert_eq!(violation(196, direction, End::Far), Some(14_400));
+            assert_eq!(violation(63, direction, End::Start), Some(15_876));
+            assert_eq!(violation(255, direction, End::Far), Some(4));
+        }
+        for direction in 3..7 {
+            assert_eq!(violation(66, direction, End::Start), Some(13_068));
+            assert_eq!(violation(190, direction, End::Far), Some(13_068));
+            assert_eq!(violation(105, direction, End::Start), Some(33_075));
+            assert_eq!(violation(255, direction, End::Far), Some(3));
+        }
+    }
+
+    /// The squared distance is that between the two places.
+    #[test]
+    fn distances_are_those_of_places() {
+        let lattice = Lattice::new(2, 2, 2).unwrap();
+        for code in 1..=14 {
+            let (edge, end) = edge_of_code(&lattice, 13, code).unwrap();
+            let from = place_of_point(&lattice, 13);
+            for t in 1..=255 {
+                let to = place_of_cut(&lattice, edge, t);
+                let squared: i64 = (0..3).map(|a| (to[a] - from[a]).pow(2)).sum();
+                if let Some(distance) = violation(t, edge.direction, end) {
+                    assert_eq!(i64::from(distance), squared);
+                }
+            }
+        }
+    }
+
+    /// A long and a short edge never tie.
+    #[test]
+    fn a_long_cut_is_never_as_far_as_a_short_one() {
+        let distances =
+            |direction| (1..=255).filter_map(move |t| violation(t, direction, End::Start));
+        assert!(distances(0).all(|long| distances(3).all(|short| long != short)));
+        assert_eq!((distances(0).count(), distances(3).count()), (63, 105));
     }
 
     #[test]

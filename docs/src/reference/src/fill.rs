@@ -2,8 +2,8 @@
 //!
 //! Follows document 01, "Calls and refusals", and hands the work to the
 //! modules [`crate::bytes`] (labels, rim, cut bytes), [`crate::warp`] (moving
-//! points) and [`crate::emit`] (rows). Besides the lent tables it uses one
-//! buffer of N label bytes.
+//! points) and [`crate::emit`] (rows). Besides the lent tables it uses two
+//! buffers: N label bytes and, if there are cuts, N marks of four bytes.
 
 use crate::bytes::{lowest_plus_on_rim, read_labels, test_cuts};
 use crate::emit::{count_rows, write_rows};
@@ -70,10 +70,11 @@ pub fn fill(
     if let Some(point) = lowest_plus_on_rim(&grids, &labels) {
         return Filled::refused(refusal::RIM, point);
     }
-    if let Err(wrong) = test_cuts(&grids, &mut labels, cuts) {
-        return Filled::refused(wrong.number, wrong.offset);
-    }
-    let moved = move_points(&grids, &mut labels, cuts, state);
+    let marks = match test_cuts(&grids, &labels, cuts) {
+        Ok(marks) => marks,
+        Err(wrong) => return Filled::refused(wrong.number, wrong.offset),
+    };
+    let moved = move_points(&grids, &marks, &mut labels, cuts, state);
     let count = count_rows(&grids, &labels);
     let fits = rows.len() >= 4 * count;
     if fits {

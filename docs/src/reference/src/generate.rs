@@ -44,13 +44,22 @@ pub enum Cutting {
     Limits,
     /// Anything, often at the limits.
     Wild,
+    /// Few different ones, two in three of them near an end: many cuts violate
+    /// one point, and often two are as near or almost. For [`crowded_block`].
+    Close,
 }
 
-/// All ways to draw cut bytes.
+/// The ways to draw cut bytes for [`any_block`].
 pub const CUTTINGS: [Cutting; 3] = [Cutting::Calm, Cutting::Limits, Cutting::Wild];
 
 /// The bytes next to a limit of violation, and the outermost ones.
 pub const LIMIT_BYTES: [u8; 10] = [1, 63, 64, 105, 106, 150, 151, 192, 193, 255];
+
+/// Distances from an end, in 256ths, for [`Cutting::Close`]. On a long edge 13
+/// is just farther than 15 on a short one (676 and 675), 45 and 58 just nearer
+/// than 52 and 67 (8,100 and 8,112; 13,456 and 13,467), and 60 is farther than
+/// 66 (14,400 and 13,068).
+pub const CLOSE: [u8; 8] = [13, 15, 45, 52, 58, 67, 60, 66];
 
 /// A random valid block with sizes from 1 to `largest`.
 pub fn any_block(random: &mut Random, largest: u32) -> Block {
@@ -58,6 +67,14 @@ pub fn any_block(random: &mut Random, largest: u32) -> Block {
     let mix = random.pick(&MIXES);
     let cutting = random.pick(&CUTTINGS);
     block(random, sizes, mix, cutting)
+}
+
+/// A random valid block with sizes from 2 to `largest` in which many cuts
+/// violate one point.
+pub fn crowded_block(random: &mut Random, largest: u32) -> Block {
+    let sizes = [0; 3].map(|_| any_size(random, largest).max(2));
+    let mix = random.pick(&MIXES);
+    block(random, sizes, mix, Cutting::Close)
 }
 
 /// A random size; the larger of two, as small blocks are all rim.
@@ -105,12 +122,18 @@ fn random_cut(random: &mut Random, cutting: Cutting) -> u8 {
         Cutting::Calm => 5,
         Cutting::Limits => 100,
         Cutting::Wild => 50,
+        Cutting::Close => 0,
     };
     if random.percent(at_limit) {
         return random.pick(&LIMIT_BYTES);
     }
     match cutting {
         Cutting::Calm => random.between(106, 150) as u8,
+        Cutting::Close => {
+            let near = random.pick(&CLOSE);
+            let from_far_end = near.wrapping_neg();
+            random.pick(&[near, from_far_end, 128])
+        }
         _ => random.between(1, 255) as u8,
     }
 }

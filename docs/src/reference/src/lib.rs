@@ -1,6 +1,6 @@
 //! An independent reference implementation of document 01, "Stuffing a
 //! scanned block with tetrahedra" (uniform isosurface stuffing), and of
-//! request F-1 of document 02, "Customer requests after the base".
+//! requests F-1 and F-2 of document 02, "Customer requests after the base".
 //!
 //! It was written from these documents, the paper that document 01 cites and
 //! IEEE 754 alone, to be compared with another implementation: in its answers
@@ -9,10 +9,10 @@
 //! | Module | Meaning |
 //! |---|---|
 //! | [`lattice`] | points, numbers, directions, rim (plain arithmetic) |
-//! | [`cut`] | cut bytes, violation, codes, places of cuts |
+//! | [`cut`] | cut bytes, violation with its squared distance, codes, places of cuts |
 //! | [`refusal`] | the refusals' numbers |
 //! | [`fill`] | filling a block, written for speed |
-//! | [`strides`], [`bytes`], [`warp`], [`stencil`], [`emit`] | the steps of the fast filling |
+//! | [`strides`], [`mark`], [`bytes`], [`warp`], [`stencil`], [`emit`] | the steps of the fast filling |
 //! | [`plain`] | filling a block, sentence by sentence: the oracle |
 //! | [`place`] | measures of a block and the place of an id |
 //! | [`metric`] | the place of an id in millimetres, with floats and without |
@@ -22,7 +22,8 @@
 //!
 //! The fast filling and the plain one share the counts of points, the seven
 //! directions and the test of violation, which the given cases of document 01
-//! pin down; for the rest each has its own code.
+//! pin down; for the rest each has its own code. [`plain`] also keeps the
+//! choice that points made before request F-2, for comparison.
 
 #![forbid(unsafe_code)]
 #![warn(missing_docs)]
@@ -37,6 +38,7 @@ pub mod emit;
 pub mod fill;
 pub mod generate;
 pub mod lattice;
+pub mod mark;
 pub mod metric;
 pub mod place;
 pub mod plain;

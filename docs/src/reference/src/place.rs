@@ -3,7 +3,7 @@
 //! Follows document 01, "Calls and refusals": measures can only be refused
 //! with 1, the place of an id with 1, 3, 4, 8, 9 in that order.
 
-use crate::cut::{edge_of_code, place_of_cut, place_of_point, violates, Place};
+use crate::cut::{edge_of_code, place_of_cut, place_of_point, violation, Place};
 use crate::lattice::{Edge, Lattice};
 use crate::refusal;
 
@@ -102,7 +102,7 @@ fn point_place(lattice: &Lattice, cuts: &[u8], state: &[u8], point: usize) -> Op
     }
     let (edge, end) = edge_of_code(lattice, point, code)?;
     let t = cuts[edge.offset()];
-    violates(t, edge.direction, end).then(|| place_of_cut(lattice, edge, t))
+    violation(t, edge.direction, end).map(|_| place_of_cut(lattice, edge, t))
 }
 
 /// The place of a cut, unless the edge does not exist, has byte 0 or has an

@@ -1,11 +1,12 @@
 //! Filling a block sentence by sentence: slow, simple, the oracle.
 //!
 //! Follows document 01, "The block", "Moving points", "Lattice tetrahedra and
-//! rows" and "Calls and refusals" in their order. Every number is decoded,
-//! every tetrahedron listed, every corner sorted, every six-volume computed
-//! from the places of the moved points.
+//! rows" and "Calls and refusals" in their order, and in "Moving points"
+//! request F-2 of document 02. Every number is decoded, every tetrahedron
+//! listed, every corner sorted, every six-volume computed from the places of
+//! the moved points.
 
-use crate::cut::{edge_of_code, place_of_cut, place_of_point, six_volume, violates, Place};
+use crate::cut::{edge_of_code, place_of_cut, place_of_point, six_volume, violation, Place};
 use crate::fill::Filled;
 use crate::lattice::{Edge, Lattice};
 use crate::refusal;
@@ -97,37 +98,66 @@ fn lowest_wrong_byte(lattice: &Lattice, samples: &[i16], cuts: &[u8]) -> Option<
     None
 }
 
+/// A live cut that violates a point at its turn.
+#[derive(Clone, Copy, Debug, PartialEq, Eq)]
+pub struct Violation {
+    /// The code that names the cut's edge at the point.
+    pub code: u8,
+    /// The squared distance between the cut and the point.
+    pub distance: u32,
+}
+
+/// To which of the live cuts that violate it, in code order, a point moves.
+pub type Choice = fn(&[Violation]) -> Option<Violation>;
+
+/// The choice of request F-2: the nearest; a tie goes to the lower code.
+pub fn nearest(violations: &[Violation]) -> Option<Violation> {
+    let nearer_or_lower = |violation: &&Violation| (violation.distance, violation.code);
+    violations.iter().min_by_key(nearer_or_lower).copied()
+}
+
+/// The choice of document 01, before request F-2: edges are tried in code
+/// order and the search stops at the first that violates. For comparison only.
+pub fn first(violations: &[Violation]) -> Option<Violation> {
+    violations.first().copied()
+}
+
 /// Takes the points once each, in ascending number, and moves each non-zero
-/// one that a live cut violates.
+/// one that a live cut violates to the nearest such cut.
 pub fn move_points(lattice: &Lattice, samples: &[i16], cuts: &[u8]) -> Moved {
+    move_points_by(nearest, lattice, samples, cuts)
+}
+
+/// The same with any choice.
+pub fn move_points_by(choice: Choice, lattice: &Lattice, samples: &[i16], cuts: &[u8]) -> Moved {
     let mut labels: Vec<i16> = samples.iter().map(|sample| sample.signum()).collect();
     let mut codes = vec![0; labels.len()];
     for point in 0..labels.len() {
         if labels[point] == 0 {
             continue;
         }
-        let first = (1..=14).find(|&code| live_and_violating(lattice, cuts, &labels, point, code));
-        if let Some(code) = first {
-            codes[point] = code;
+        let live_violation = |code| live_violation(lattice, cuts, &labels, point, code);
+        let violations: Vec<Violation> = (1..=14).filter_map(live_violation).collect();
+        if let Some(chosen) = choice(&violations) {
+            codes[point] = chosen.code;
             labels[point] = 0;
         }
     }
     Moved { codes, labels }
 }
 
-fn live_and_violating(
+fn live_violation(
     lattice: &Lattice,
     cuts: &[u8],
     labels: &[i16],
     point: usize,
     code: u8,
-) -> bool {
-    let Some((edge, end)) = edge_of_code(lattice, point, code) else {
-        return false;
-    };
+) -> Option<Violation> {
+    let (edge, end) = edge_of_code(lattice, point, code)?;
     let other = lattice.end(edge.start, edge.direction).unwrap();
     let live = labels[edge.start] != 0 && labels[other] != 0;
-    live && violates(cuts[edge.offset()], edge.direction, end)
+    let distance = violation(cuts[edge.offset()], edge.direction, end)?;
+    live.then_some(Violation { code, distance })
 }
 
 /// The lattice tetrahedra in their order: two centres, lower first, then the
@@ -163,7 +193,7 @@ fn corners_around(lattice: &Lattice, middle: [i32; 3], axis: usize) -> [usize; 4
 }
 
 /// The ids of all rows, four a row.
-fn ids_of_rows(lattice: &Lattice, cuts: &[u8], moved: &Moved) -> Vec<u32> {
+pub fn ids_of_rows(lattice: &Lattice, cuts: &[u8], moved: &Moved) -> Vec<u32> {
     let mut ids = Vec::new();
     for tetrahedron in tetrahedra(lattice) {
         for row in rows_of(lattice, &moved.labels, tetrahedron) {

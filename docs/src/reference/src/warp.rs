@@ -1,31 +1,48 @@
 //! Moving points (warping the lattice), for the fast filling.
 //!
-//! Follows document 01, "Moving points". Only marked points can be violated:
-//! labels change to zero and never back, so the live cuts only grow fewer.
+//! Follows document 01, "Moving points", and request F-2 of document 02.
+//! Labels change to zero and never back, so the live cuts only grow fewer. A
+//! point without a mark is therefore not violated at its turn either, and the
+//! cut in a point's mark, the nearest at the outset, is still the nearest if
+//! it is still live.
 
-use crate::bytes::{LABEL, MARK, ZERO};
-use crate::cut::{violates, End};
+use crate::bytes::ZERO;
+use crate::mark::{code_of_mark, MARKS, UNMARKED};
 use crate::strides::{Grids, Reach};
 
 /// Fills the state table with the codes of the moved points, sets their
-/// labels to zero, takes all marks away and answers how many points moved.
-pub fn move_points(grids: &Grids, labels: &mut [u8], cuts: &[u8], state: &mut [u8]) -> usize {
+/// labels to zero and answers how many points moved. No marks at all means
+/// that no cut violates anything.
+pub fn move_points(
+    grids: &Grids,
+    marks: &[u32],
+    labels: &mut [u8],
+    cuts: &[u8],
+    state: &mut [u8],
+) -> usize {
     state.fill(0);
+    if marks.is_empty() {
+        return 0;
+    }
     let mut moved = 0;
     for line in grids.lines() {
-        let end = line.first + line.count();
-        let marked = labels[line.first..end].iter().fold(0, |all, l| all | l) & MARK != 0;
-        if !marked {
+        let own = &marks[line.first..line.first + line.count()];
+        if own.iter().fold(UNMARKED, |all, mark| all & mark) == UNMARKED {
             continue;
         }
         let codes = line.all_codes();
-        for index in 0..line.count() {
-            let point = line.first + index;
-            if labels[point] & MARK == 0 {
+        for (index, &mark) in own.iter().enumerate() {
+            let Some(code) = code_of_mark(mark) else {
                 continue;
-            }
-            labels[point] &= LABEL;
-            if let Some(code) = first_violating(&codes, index, point, labels, cuts) {
+            };
+            let point = line.first + index;
+            let other = codes[usize::from(code) - 1].other_end(point);
+            let code = if labels[other] != ZERO {
+                Some(code)
+            } else {
+                nearest_violating(&codes, index, point, labels, cuts)
+            };
+            if let Some(code) = code {
                 state[point] = code;
                 labels[point] = ZERO;
                 moved += 1;
@@ -35,29 +52,28 @@ pub fn move_points(grids: &Grids, labels: &mut [u8], cuts: &[u8], state: &mut [u
     moved
 }
 
-/// The first code whose cut is live and violates the point. The point itself
-/// is non-zero, since it is marked and has not moved yet.
-fn first_violating(
+/// The code of the nearest cut that is live and violates the point; if several
+/// are as near, the lowest code. The point itself is non-zero, since it is
+/// marked and has not moved yet.
+fn nearest_violating(
     codes: &[Reach; 14],
     index: usize,
     point: usize,
     labels: &[u8],
     cuts: &[u8],
 ) -> Option<u8> {
+    let mut nearest = UNMARKED;
     for (n, reach) in codes.iter().enumerate() {
         if !reach.covers(index) {
             continue;
         }
         let other = reach.other_end(point);
-        let (start, direction, end) = if n < 7 {
-            (point, n, End::Start)
-        } else {
-            (other, n - 7, End::Far)
-        };
-        let t = cuts[7 * start + direction];
-        if violates(t, direction, end) && labels[other] & LABEL != ZERO {
-            return Some(n as u8 + 1);
+        if labels[other] == ZERO {
+            continue;
         }
+        let start = if n < 7 { point } else { other };
+        let t = cuts[7 * start + n % 7];
+        nearest = nearest.min(MARKS[n][usize::from(t)]);
     }
-    None
+    code_of_mark(nearest)
 }

@@ -5,7 +5,7 @@
 
 use reference::damage::{Call, Damage, Outcome, DAMAGES};
 use reference::fill::fill;
-use reference::generate::{any_block, block, CUTTINGS, MIXES};
+use reference::generate::{any_block, block, crowded_block, Cutting, CUTTINGS, MIXES};
 use reference::plain;
 use reference::random::Random;
 
@@ -66,6 +66,21 @@ fn on_random_valid_blocks() {
     for _ in 0..3000 {
         let mut call = Call::good(any_block(&mut random, 5), 0);
         check_valid(&mut call, &mut random);
+    }
+}
+
+#[test]
+fn on_crowded_blocks() {
+    let mut random = Random::new(8);
+    for _ in 0..2000 {
+        let mut call = Call::good(crowded_block(&mut random, 5), 0);
+        check_valid(&mut call, &mut random);
+    }
+    for sizes in [[64, 4, 3], [3, 64, 4], [4, 3, 64]] {
+        for mix in MIXES {
+            let block = block(&mut random, sizes, mix, Cutting::Close);
+            check_valid(&mut Call::good(block, 0), &mut random);
+        }
     }
 }
 

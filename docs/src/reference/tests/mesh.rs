@@ -2,7 +2,7 @@
 
 use reference::blockfile::fill_block;
 use reference::check::check_mesh;
-use reference::generate::{any_block, block, CUTTINGS, MIXES};
+use reference::generate::{any_block, block, crowded_block, Cutting, CUTTINGS, MIXES};
 use reference::random::Random;
 
 #[test]
@@ -22,10 +22,24 @@ fn closed_and_positive_on_random_blocks() {
 }
 
 #[test]
+fn closed_and_positive_on_crowded_blocks() {
+    let mut random = Random::new(13);
+    let mut with_rows = 0;
+    for n in 0..2000 {
+        let block = crowded_block(&mut random, 6);
+        let tables = fill_block(&block);
+        let faces = check_mesh(&block, &tables.state, &tables.rows);
+        faces.unwrap_or_else(|fault| panic!("block {n}: {fault}"));
+        with_rows += usize::from(!tables.rows.is_empty());
+    }
+    assert!(with_rows > 1000, "{with_rows}");
+}
+
+#[test]
 fn closed_and_positive_in_every_mix() {
     let mut random = Random::new(12);
     for mix in MIXES {
-        for cutting in CUTTINGS {
+        for cutting in CUTTINGS.into_iter().chain([Cutting::Close]) {
             for _ in 0..10 {
                 let block = block(&mut random, [6, 6, 6], mix, cutting);
                 let tables = fill_block(&block);
