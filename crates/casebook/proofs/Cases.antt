@@ -1,8 +1,9 @@
--- Document 01's cases come out: what `fill` and `locate` say of each is what document 01 says. Assumes nothing.
+-- The papers' cases come out: what `fill` and `locate` say of each is what documents 01 and 02 say. Assumes nothing.
 use mathlib.Core.Path.{_≡_, refl}
 use mathlib.Core.List.{map}
-use Rattle.casebook.specs.cases.Given.{laid, laidRuns, givenSamples, givenCuts, changed}
+use Rattle.casebook.specs.cases.Given.{laid, laidRuns, givenSamples, givenCuts, allEntered, changed}
 use Rattle.casebook.specs.cases.Cases.{cases, strange}
+use Rattle.casebook.specs.cases.Nearest.{nearest}
 use Rattle.casebook.specs.cases.Result.{computed, expected, found, resultOf}
 use Rattle.casebook.proofs.Opened.{definitions}
 
@@ -13,3 +14,8 @@ cases-come-out = refl
 pub strange-come-out : map computed strange ≡ map expected strange
 unfolding definitions laid laidRuns givenSamples givenCuts changed strange computed expected found resultOf
 strange-come-out = refl
+
+-- document 02, F-2
+pub nearest-come-out : map computed nearest ≡ map expected nearest
+unfolding definitions laid laidRuns givenSamples givenCuts allEntered changed nearest computed expected found resultOf
+nearest-come-out = refl

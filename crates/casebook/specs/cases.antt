@@ -1,6 +1,7 @@
 pub mod Lent
 pub mod Given
 pub mod Cases
+pub mod Nearest
 pub mod Result
 pub mod Metric
 pub mod Millimetres

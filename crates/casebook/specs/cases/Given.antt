@@ -1,8 +1,9 @@
--- Document 01, "The bench program": the block of the given case, and changes of one number of it.
+-- Document 01, "The bench program": the block of the given case, and changes of its numbers.
 use Prim.Native.Nat.{ℕ, zero, suc, _+_, _*_}
 use mathlib.Core.List.{List, [], _∷_}
 use lib.IntN.{ℤ, pos, negℤ}
 use lib.ListN.{replicate, set}
+use Rattle.basics.specs.cases.Table.{Entry, entered}
 use Rattle.lattice.specs.declared.Sizes.{Sizes}
 use Rattle.lattice.specs.Counts.{points}
 use Rattle.moving.specs.Block.{Block, blockOf}
@@ -36,13 +37,20 @@ givenCuts =
     (run 30 1 ∷ run 71 1 ∷ run 84 1 ∷ run 91 7 ∷ run 192 1 ∷ run 200 1 ∷ run 208 1 ∷ run 216 1 ∷ [])
     (replicate (7 * points givenSizes) 0)
 
--- a change of the given block: none, a byte of the cut table at a value, or a sample at a value
+-- a table with every entry of a list replaced
+unfoldable pub allEntered : List Entry → List ℕ → List ℕ
+allEntered [] table = table
+allEntered (e ∷ es) table = allEntered es (entered e table)
+
+-- a change of the given block: none, a byte or some bytes of the cut table at values, or a sample at a value
 pub data Change : Type 0 where
   unchanged : Change
   byte-at : ℕ → ℕ → Change
+  bytes-at : List Entry → Change
   sample-at : ℕ → ℤ → Change
 
 unfoldable pub changed : Change → Block
 changed unchanged = blockOf givenSizes givenSamples givenCuts
 changed (byte-at o t) = blockOf givenSizes givenSamples (set givenCuts o t)
+changed (bytes-at es) = blockOf givenSizes givenSamples (allEntered es givenCuts)
 changed (sample-at p z) = blockOf givenSizes (set givenSamples p z) givenCuts
