@@ -4,6 +4,7 @@
 --     nearest-none      so if nothing does, it is 0
 --     nearest-le        it is no higher than the codes that are asked
 --     nearest-unique    no two are
+--     fewer-same        where some violations are left out, the nearest stays if it is not
 use Prim.Native.Nat.{ℕ, zero, suc, _≤_, _<_}
 use native.Mathlib.Omega.{arith}
 use mathlib.Core.Path.{_≡_, refl, sym, ap, subst, _∙_}
@@ -111,5 +112,36 @@ module _ (by : ℕ → Violation) where
         | inr l ↦ elim (lt-or e c) [
           | inl u ↦ absurd (omega (arith, h .tie e x (g .low) u (g .at), g .least c d (h .low) (h .high) (h .at)))
           | inr u ↦ omega arith
+        ]
+      ]
+
+-- g violates only as f does
+module _ (f g : ℕ → Violation) (n : ℕ) (fewer : (e : ℕ) → 1 ≤ e → e ≤ n → (g e ≡ f e) ⊎ (g e ≡ No)) where
+  fewer-distance : (e x : ℕ) → 1 ≤ e → e ≤ n → g e ≡ Distance x → f e ≡ Distance x
+  fewer-distance e x l u w = elim (fewer e l u) [ inl s ↦ sym s ∙ w | inr z ↦ absurd (no-distance z w) ]
+
+  pub fewer-none : nearestTo f n ≡ 0 → nearestTo g n ≡ 0
+  fewer-none z =
+      elim (nearest-or f n) [
+        | inl q ↦ nearest-none g n (λ e l u. elim (fewer e l u) [ inl s ↦ s ∙ q .1 e l u | inr w ↦ w ])
+        | inr h ↦ absurd (omega (arith, h .1 .low))
+      ]
+
+  pub fewer-same : g (nearestTo f n) ≡ f (nearestTo f n) → nearestTo g n ≡ nearestTo f n
+  fewer-same s =
+      elim (nearest-or f n) [
+        | inl q ↦ fewer-none (q .0) ∙ sym (q .0)
+        | inr (d, h) ↦ elim (nearest-or g n) [
+          | inl q ↦ absurd (no-distance (q .1 _ (h .low) (h .high)) (s ∙ h .at))
+          | inr (x, k) ↦
+              let still : Nearest g n (nearestTo f n) d =
+              record {
+                low = h .low;
+                high = h .high;
+                at = s ∙ h .at;
+                least = λ e y l u w. h .least e y l u (fewer-distance e y l u w);
+                tie = λ e y l u w. h .tie e y l u (fewer-distance e y l (omega (arith, h .high)) w);
+              } in
+              nearest-unique g k still
         ]
       ]

@@ -2,8 +2,8 @@
 use Prim.Native.Nat.{ℕ, zero, suc, _+_, _*_, _-_, _≤_, _<_}
 use native.Mathlib.Omega.{arith}
 use mathlib.Core.Path.{_≡_, refl, sym, ap, subst, _∙_}
-use mathlib.Core.Logic.{inl, inr}
-use mathlib.Core.Bool.{false}
+use mathlib.Core.Logic.{_⊎_, inl, inr}
+use mathlib.Core.Bool.{true}
 use mathlib.Core.List.{List, [], _∷_}
 use lib.ListN.{getD}
 use Rattle.basics.proofs.Test.{lt-or}
@@ -16,32 +16,26 @@ use Rattle.lattice.specs.Direction.{Code, asEnd}
 use Rattle.lattice.specs.Edge.{near, neighbour, edgeByte}
 use Rattle.lattice.specs.inner.Site.{Sited, index}
 use Rattle.lattice.proofs.Sites.{by-direction}
-use Rattle.moving.specs.declared.Violation.the-variants.{No}
-use Rattle.moving.specs.Violation.{rule1, Rule, violation, violated, violates}
-use Rattle.moving.specs.Reading.{Reading, cutAlong}
+use Rattle.moving.specs.Violation.{rule1, violation}
+use Rattle.moving.specs.Nearest.{nearest}
+use Rattle.moving.specs.Reading.{Reading, cutAlong, violationBy}
 use Rattle.moving.specs.Moving.{choice}
+use Rattle.moving.proofs.Nearest.{nearest-none}
 use Rattle.ground.specs.inner.Lines.{Line, lineAt}
 use Rattle.ground.specs.inner.Strides.{startsAt, rangeMost}
 use Rattle.ground.proofs.Points.{sited}
 use Rattle.ground.proofs.Lines.{line-stands, line-at}
 use Rattle.ground.proofs.Sites.{site-near}
 use Rattle.ground.proofs.FarEnds.{start-small, start-first, start-fourth, start-sixth, start-within}
-use Rattle.warp.specs.inner.Quick.{Offsets, Spared, Uncut, Bare}
+use Rattle.warp.specs.inner.Quick.{liveAlong, Offsets, byByte, Uncut, Bare}
 use Rattle.warp.proofs.Offsets.{byte-start, byte-end}
-use Rattle.warp.proofs.Searching.{Searching, unviolated, search-to, search-ends}
+use Rattle.warp.proofs.Searching.{Stands, guess-none, guess-stands, live-at}
 
--- a byte of 0 is no cut
-none-violates : (r : Rule) (c t : ℕ) → t ≡ 0 → violates r c t ≡ false
-unfolding violation violated
-none-violates r c t e = rw e refl
-
--- a point without a cut does not move
+-- a point without a cut does not move: a byte of 0 is no cut
 pub bare-stays : (m : Reading) (codes : List ℕ) (p : ℕ) → Bare (m .sizes) (m .cuts) p → choice m codes p ≡ 0
+unfolding violation
 bare-stays m codes p b =
-    search-ends
-    (search-to m codes p {c = 15} (omega arith, omega arith) (λ c k u.
-    unviolated m codes p c (λ q e. none-violates (m .rule) c _ (b .none c k q e))))
-    (omega arith)
+    guess-none m codes p (λ c. 0) (λ c k q e. sym (b .none c k q e)) (nearest-none (λ c. violation (m .rule) c 0) 14 (λ c l u. refl))
 
 -- fourteen bytes that are zero: seven of edges that start at the point, seven of edges that end there
 module _ (s : Sizes) (cuts : List ℕ) (q : Site) (h : Sized s) (g : Sited s q) where
@@ -132,19 +126,23 @@ bare-line s q h l cuts {back} {m} b e u =
 
 -- the byte that stands for the edge by a code, at a site with the number p
 pub offset-byte : (m : Reading) (q : Site) (at : List ℕ) {p c t : ℕ} → q .own ≡ p → Sized (m .sizes) → Sited (m .sizes) q
-    → Offsets (m .sizes) q at → Code c → t ≡ getD (m .cuts) (getD at (c - 1) 0) 0
-    → (e : ℕ) → neighbour (m .sizes) p c ≡ At e → t ≡ cutAlong m p c e
+    → Offsets (m .sizes) q at → Code c → t ≡ getD (m .cuts) (getD at (c - 1) 0) 0 → Stands m p c t
 offset-byte m q at {c = c} i h g o k is e near =
     let leads = ap (λ (n : ℕ). neighbour (m .sizes) n c) i ∙ near in
     is
     ∙ ap (λ (j : ℕ). getD (m .cuts) j 0) (o .byte c k e (sym (site-near (m .sizes) q h g c) ∙ leads))
     ∙ ap (λ (n : ℕ). cutAlong m n c e) i
 
--- the search may start where the first byte violates
-pub search-from : (m : Reading) (q : Site) (at codes : List ℕ) {p r : ℕ} → m .rule ≡ rule1 → q .own ≡ p
-    → Sized (m .sizes) → Sited (m .sizes) q
-    → Offsets (m .sizes) q at → (1 ≤ r) × (r ≤ 15) → Spared (m .cuts) at r → Searching m codes p 0 No r
-search-from m q at codes {p = p} rule i h g o l n =
-    search-to m codes p l (λ c k u. unviolated m codes p c (λ e near.
-    let byte = offset-byte m q at i h g o k refl e near in
-    (λ j. violates (rule j) c (sym byte j)) ∙ n .none c k u))
+-- the nearest by the bytes, if there is none or its cut is live
+pub guess-at : (m : Reading) (codes : List ℕ) (q : Site) (at : List ℕ) {p c : ℕ} → m .rule ≡ rule1 → q .own ≡ p
+    → Sized (m .sizes) → Sited (m .sizes) q → Offsets (m .sizes) q at → c ≡ nearest (byByte (m .cuts) at)
+    → (c ≡ 0) ⊎ (liveAlong (m .label) codes (q .own) (neighbour (m .sizes) (q .own) c) ≡ true)
+    → c ≡ nearest (violationBy m codes p)
+unfolding byByte
+guess-at m codes q at {p} {c} rule i h g o e l =
+    guess-stands m codes p byte (λ k code. offset-byte m q at i h g o code refl)
+    (e ∙ (λ j. nearest (λ k. violation (sym rule j) k (byte k))))
+    (elim l [ inl z ↦ inl z | inr a ↦ inr (live-at m codes c i a) ])
+  where
+    byte : ℕ → ℕ
+    byte k = getD (m .cuts) (getD at (k - 1) 0) 0

@@ -11,6 +11,8 @@ use lattice::edges;
 use lattice::numbers;
 use moving::Violation;
 ghost use mathlib.Core.Path.{_≡_};
+ghost use mathlib.Core.Bool.{true, false};
+ghost use mathlib.Core.Logic.{_⊎_};
 ghost use Prim.Native.Nat.{_+_, _<_, _≤_};
 ghost use lib.ListN.{length, replicate};
 ghost use Rattle.lattice.specs.Axis.{along-x};
@@ -20,11 +22,12 @@ ghost use Rattle.lattice.specs.Edge.{neighbour};
 ghost use Rattle.lattice.specs.inner.Site.{Sited};
 ghost use Rattle.moving.specs.Label.{labels, isZero};
 ghost use Rattle.moving.specs.Reading.{labelAfter, live};
+ghost use Rattle.moving.specs.Nearest.{nearest};
 ghost use Rattle.moving.specs.Moving.{stateAt, stateOf};
 ghost use Rattle.moving.specs.Block.{blockOf, readingOf, Tabled};
 ghost use Rattle.filling.specs.Fill.{movedCount};
 ghost use Rattle.ground.specs.inner.Lines.{Line};
-ghost use Rattle.warp.specs.inner.Quick.{liveAlong, Spared};
+ghost use Rattle.warp.specs.inner.Quick.{liveAlong, byByte};
 
 // A point's label is zero: it has moved, or its sample is zero.
 fn is_faded(samples: &[i16], state: &[u8], p: usize) -> bool
@@ -64,26 +67,57 @@ fn is_live_by(s: Sizes, samples: &[i16], state: &[u8], q: Site, code: usize) -> 
     }
 }
 
-// The first code whose byte violates the point, whatever the labels, or 15. No test ends early, so
-// that the compiler unrolls the loop and branches nowhere.
-fn first_near(cuts: &[u8], at: [usize; 14]) -> usize
-    ensures { λ r. ⌜ (1 ≤ r) × (r ≤ 15) ⌝ }
-    ensures { λ r. ⌜ Spared (now (cuts .entry)) at r ⌝ }
+// No byte violates the point, whatever the labels. No test ends early, so that the compiler unrolls
+// the loop and branches nowhere.
+fn is_spared(cuts: &[u8], at: [usize; 14]) -> bool
+    ensures { λ r. ⌜ (r ≡ true → nearest (byByte (now (cuts .entry)) at) ≡ 0) ⌝ }
 {
-    let mut first: usize = 15;
+    let mut spared = true;
     for k in 0..14 {
-        let code = 14 - k;
-        let v = violation::violation(code, bytes::cut_at(cuts, at[code - 1]));
-        if violation::is_violated(v) {
-            first = code;
+        if violation::is_violated(violation::violation(k + 1, bytes::cut_at(cuts, at[k]))) {
+            spared = false;
         }
     }
-    first
+    spared
 }
 
-// The points of a line take their turns; the search of a point goes through all codes, but for those
-// before the first whose byte violates, and keeps the nearest. Bytes are asked first: then few
-// neighbours are looked up. The answer counts the points that move.
+// The code whose byte violates the point and is the nearest, whatever the labels, or 0.
+fn nearest_byte(cuts: &[u8], at: [usize; 14]) -> usize
+    ensures { λ r. ⌜ r ≡ nearest (byByte (now (cuts .entry)) at) ⌝ }
+{
+    if is_spared(cuts, at) {
+        return 0;
+    }
+    let mut found: usize = 0;
+    let mut best = Violation::No;
+    for k in 0..14 {
+        let v = violation::violation(k + 1, bytes::cut_at(cuts, at[k]));
+        if violation::is_nearer(v, best) {
+            best = v;
+            found = k + 1;
+        }
+    }
+    found
+}
+
+// A code is given, and its cut is not live.
+fn is_dead(s: Sizes, samples: &[i16], state: &[u8], q: Site, code: usize) -> bool
+    requires { ⌜ Sized s ⌝ }
+    requires { ⌜ (length (now samples) ≡ points s) × (length (now state) ≡ points s) ⌝ }
+    requires { ⌜ code ≤ 14 ⌝ }
+    requires { ⌜ Sited s q ⌝ }
+    ensures { λ r. ⌜ (r ≡ false → (code ≡ 0)
+        ⊎ (liveAlong (labels (now (samples .entry))) (now (state .entry)) (q .own) (neighbour s (q .own) code) ≡ true)) ⌝ }
+{
+    if code == 0 {
+        return false;
+    }
+    !is_live_by(s, samples, state, q, code)
+}
+
+// The points of a line take their turns. Mostly the nearest cut by the bytes is live, or there is
+// none; else the search of a point goes through all codes and keeps the nearest whose cut is live.
+// The answer counts the points that move.
 fn warp_line(s: Sizes, samples: &[i16], cuts: &[u8], state: &mut [u8], q: Site) -> usize
     requires { ⌜ Tabled (blockOf s (now samples) (now cuts)) ⌝ }
     requires { ⌜ Line s (q .own) q ⌝ }
@@ -100,9 +134,13 @@ fn warp_line(s: Sizes, samples: &[i16], cuts: &[u8], state: &mut [u8], q: Site) 
         let p = own + x;
         let here = walk::along(q, x);
         let at = bytes::offsets(s, here);
-        let first = first_near(cuts, at);
-        let mut found: usize = 0;
+        let mut found = nearest_byte(cuts, at);
         let mut best = Violation::No;
+        let mut first: usize = 15;
+        if is_dead(s, samples, state, here, found) {
+            found = 0;
+            first = 1;
+        }
         for code in first..15 {
             let v = violation::violation(code, bytes::cut_at(cuts, at[code - 1]));
             if violation::is_nearer(v, best) {

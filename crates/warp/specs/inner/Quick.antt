@@ -12,7 +12,8 @@ use Rattle.lattice.specs.Direction.{Code}
 use Rattle.lattice.specs.Edge.{near, neighbour, edgeByte}
 use Rattle.lattice.specs.inner.Site.{index}
 use Rattle.moving.specs.declared.Label.{Label}
-use Rattle.moving.specs.Violation.{rule1, violates}
+use Rattle.moving.specs.declared.Violation.{Violation}
+use Rattle.moving.specs.Violation.{rule1, violation}
 use Rattle.moving.specs.Reading.{live}
 
 -- the edge from p to this neighbour exists, and its cut is live
@@ -24,9 +25,9 @@ liveAlong label codes p (At q) = live label codes p q
 pub record Offsets (s : Sizes) (q : Site) (at : List ℕ) : Type 0 where
   pub byte : (c : ℕ) → Code c → (e : ℕ) → near s (q .kind) (index q) c ≡ At e → getD at (c - 1) 0 ≡ edgeByte (q .own) c e
 
--- no byte at these offsets by a code before r violates
-pub record Spared (cuts at : List ℕ) (r : ℕ) : Type 0 where
-  pub none : (c : ℕ) → Code c → c < r → violates rule1 c (getD cuts (getD at (c - 1) 0) 0) ≡ false
+-- how the bytes at these offsets violate, by code, whatever the labels
+unfoldable pub byByte : List ℕ → List ℕ → ℕ → Violation
+byByte cuts at c = violation rule1 c (getD cuts (getD at (c - 1) 0) 0)
 
 -- no cut on the edges that start at the m + 1 points from one on
 pub record Uncut (cuts : List ℕ) (from m : ℕ) : Type 0 where

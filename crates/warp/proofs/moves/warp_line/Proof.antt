@@ -2,7 +2,7 @@
 -- Assumes nothing.
 use Prim.Native.Nat.{_-_, _≤_}
 use native.Mathlib.Omega.{arith}
-use mathlib.Core.Path.{_≡_, refl, sym, ap, _∙_}
+use mathlib.Core.Path.{refl, sym, ap, _∙_}
 use mathlib.Core.Logic.{⊎-elim}
 use lib.ListN.{length}
 use Rattle.lattice.specs.Direction.{Code}
@@ -10,24 +10,30 @@ use Rattle.lattice.proofs.Bounds.{points-small}
 use Rattle.lattice.proofs.Sites.{numbers-small}
 use Rattle.moving.specs.declared.Violation.{Violation}
 use Rattle.moving.specs.Nearest.{nearer}
+use Rattle.moving.specs.Reading.{violationBy}
+use Rattle.moving.specs.Moving.{choice}
 use Rattle.moving.specs.Block.{blockOf, readingOf}
+use Rattle.moving.proofs.Nearest.{nearest-le}
 use Rattle.moving.proofs.Moved.{stateAt-long}
 use Rattle.ground.proofs.Points.{sited}
 use Rattle.ground.proofs.Lines.{line-stands, line-fits}
 use Rattle.ground.proofs.Sites.{along-sited, along-own}
+use Rattle.warp.specs.inner.Quick.{byByte}
 use Rattle.warp.proofs.Counted.{counted-few}
 use Rattle.warp.proofs.Searching.{
   Searching,
-  by-far,
-  when-live,
-  when-dead,
-  live-at,
+  search-starts,
+  search-whole,
   search-nearer,
   search-keeps,
   search-few,
   search-ends,
+  by-byte,
+  by-far,
+  when-dead,
+  live-at,
 }
-use Rattle.warp.proofs.Quiet.{offset-byte, search-from}
+use Rattle.warp.proofs.Quiet.{offset-byte, guess-at}
 use Rattle.warp.proofs.Turning.{
   Walked,
   walked-starts,
@@ -42,11 +48,11 @@ use Rattle.warp.proofs.moves.warp_line.Statement.{statement}
 use Rattle.warp.proofs.moves.warp_line.Tie as tie
 
 abbrev Inv-loop2 : tie.InvT-loop2
-Inv-loop2 s samples cuts state q own m moved x p here at first found₀ best₀ code₀ found best code =
-    Searching (readingOf (blockOf s samples cuts)) state p found best code
+Inv-loop2 s samples cuts state q own m moved x p here at found₀ best₀ first code₀ found best code =
+    Searching (violationBy (readingOf (blockOf s samples cuts)) state p) found best code
 
 abbrev μ-loop2 : tie.MeasureT-loop2
-μ-loop2 s samples cuts state q own m moved x p here at first found₀ best₀ code₀ found best code = 15 - code
+μ-loop2 s samples cuts state q own m moved x p here at found₀ best₀ first code₀ found best code = 15 - code
 
 abbrev Inv-loop : tie.InvT-loop
 Inv-loop s samples cuts state₀ q own m moved₀ x₀ state moved x = Walked (readingOf (blockOf s samples cuts)) own m state₀ state moved x
@@ -85,49 +91,68 @@ offsets-requires c κs =
     let len = at-length .line-length .ensures .0 in
     (at-start .pre .0 .sized, along-sited (at-start .pre .1 .0) (omega arith) (c .along .ensures))
 
-first-near-requires : tie.Need-first-near-requires Inv-loop2 μ-loop2 Inv-loop μ-loop
-first-near-requires c κs = search needs
+nearest-byte-requires : tie.Need-nearest-byte-requires Inv-loop2 μ-loop2 Inv-loop μ-loop
+nearest-byte-requires c κs = search needs
+
+is-dead-requires : tie.Need-is-dead-requires Inv-loop2 μ-loop2 Inv-loop μ-loop
+is-dead-requires c κs =
+    let at-along = c .before .before .before in
+    let at-loop = at-along .before .before in
+    let at-length = at-loop .before in
+    let at-start = at-length .before .before .before in
+    let block = at-start .pre .0 in
+    let len = at-length .line-length .ensures .0 in
+    let few = nearest-le (byByte (at-start .args .cuts .now) (c .before .before .offsets .result)) 14 in
+    let here = along-sited (at-start .pre .1 .0) (omega arith) (at-along .along .ensures) in
+    let long = walked-long _ (at-loop .loop .inv) (at-along .before .loop-test .taken) in
+    (block .sized, ((block .samples-long, long), (omega (arith, c .before .nearest-byte .ensures), here)))
 
 loop2-holds : tie.Need-loop2-holds Inv-loop2 μ-loop2 Inv-loop μ-loop
 loop2-holds c =
-    let at-along = c .before .before in
+    let at-near = c .before .before .before in
+    let at-offsets = at-near .before in
+    let at-along = at-offsets .before in
     let at-length = at-along .before .before .before in
     let at-start = at-length .before .before .before in
+    let a = at-start .args in
+    let m = readingOf (blockOf (a .s) (a .samples .now) (a .cuts .now)) in
     let line = at-start .pre .1 .0 in
     let len = at-length .line-length .ensures .0 in
     let own = along-own line (omega arith) (at-along .along .ensures) in
     let here = along-sited line (omega arith) (at-along .along .ensures) in
-    let near = c .first-near .ensures in
-    search-from _ _ _ _ refl own (at-start .pre .0 .sized) here (c .before .offsets .ensures) (near .0) (near .1)
+    let guess = guess-at m _ _ _ refl own (at-start .pre .0 .sized) here (at-offsets .offsets .ensures) (at-near .nearest-byte .ensures) in
+    ⊎-elim (λ w. search-starts (w .1) (w .2))
+    (λ w. search-whole (w .1 ∙ guess (c .before .is-dead .ensures (w .0 .left))) (w .2)) (c .if1 .came)
 
 sub-cut-at : tie.Need-sub-cut-at Inv-loop2 μ-loop2 Inv-loop μ-loop
-sub-cut-at c = omega (arith, c .before .loop2 .inv .low)
+sub-cut-at c = omega (arith, c .before .before .loop2 .inv .low)
 
 mul-cut-at : tie.Need-mul-cut-at Inv-loop2 μ-loop2 Inv-loop μ-loop
 mul-cut-at c = omega arith
 
 array-read-cut-at : tie.Need-array-read-cut-at Inv-loop2 μ-loop2 Inv-loop μ-loop
-array-read-cut-at c = omega (arith, c .before .loop2 .inv .low)
+array-read-cut-at c = omega (arith, c .before .before .loop2 .inv .low)
 
 cut-at-requires : tie.Need-cut-at-requires Inv-loop2 μ-loop2 Inv-loop μ-loop
 cut-at-requires c κs = search needs
 
 violation-requires : tie.Need-violation-requires Inv-loop2 μ-loop2 Inv-loop μ-loop
-violation-requires c κs = record { low = c .before .before .loop2 .inv .low; high = omega arith }
+violation-requires c κs = record { low = c .before .before .before .loop2 .inv .low; high = omega arith }
 
 is-nearer-requires : tie.Need-is-nearer-requires Inv-loop2 μ-loop2 Inv-loop μ-loop
 is-nearer-requires c κs = search needs
 
 is-live-by-requires : tie.Need-is-live-by-requires Inv-loop2 μ-loop2 Inv-loop μ-loop
 is-live-by-requires c κs =
-    let at-test = c .before .before .before .before .before in
+    let at-test = c .before .before .before .before .before .before in
     let at-search = at-test .before in
-    let at-along = at-search .before .before .before in
+    let at-along = at-search .before .before .before .before .before .before in
     let at-loop = at-along .before .before in
     let at-length = at-loop .before in
     let at-start = at-length .before .before .before in
     let block = at-start .pre .0 in
     let len = at-length .line-length .ensures .0 in
+    let inside = at-test .loop2-test .taken in
     let code : Code (at-search .loop2 .code) = record { low = at-search .loop2 .inv .low; high = omega arith } in
     let here = along-sited (at-start .pre .1 .0) (omega arith) (at-along .along .ensures) in
     let long = walked-long _ (at-loop .loop .inv) (at-along .before .loop-test .taken) in
@@ -142,8 +167,8 @@ loop2-less c = omega arith
 loop2-again : tie.Need-loop2-again Inv-loop2 μ-loop2 Inv-loop μ-loop
 loop2-again c =
     let at-cut = c .before .before .before in
-    let at-search = at-cut .before .before in
-    let at-offsets = at-search .before .before in
+    let at-search = at-cut .before .before .before in
+    let at-offsets = at-search .before .before .before .before .before in
     let at-along = at-offsets .before in
     let at-length = at-along .before .before .before in
     let at-start = at-length .before .before .before in
@@ -163,18 +188,21 @@ loop2-again c =
     ⊎-elim
     (λ w.
     let live = live-at m _ k own (sym (w .2 .ensures) ∙ w .3 .taken) in
-    search-nearer i l (is ∙ when-live m _ _ k byte live) (asked ∙ w .0 .taken) (w .4) (w .5))
+    search-nearer i l (is ∙ sym (by-byte m _ _ k byte _ live)) (asked ∙ w .0 .taken) (w .4) (w .5))
     (⊎-elim
     (λ w. search-keeps i l (when-dead m _ _ k byte _ (live-at m _ k own (sym (w .2 .ensures) ∙ w .3 .left))) (w .4) (w .5))
-    (λ w. search-keeps i l (by-far m _ _ k byte _ (ap (λ (v : Violation). nearer v (at-search .loop2 .best)) (sym is) ∙ asked ∙ w .0 .left)) (w .1) (w .2)))
-    (c .if1 .came)
+    (λ w.
+    let far = ap (λ (v : Violation). nearer v (at-search .loop2 .best)) (sym is) ∙ asked ∙ w .0 .left in
+    search-keeps i l (by-far m _ _ k byte _ far) (w .1) (w .2)))
+    (c .if2 .came)
 
 cast-state : tie.Need-cast-state Inv-loop2 μ-loop2 Inv-loop μ-loop
-cast-state c = omega (arith, search-few (c .before .before .loop2 .inv))
+cast-state c = omega (arith, search-few (c .before .before .before .loop2 .inv))
 
 slice-write-state : tie.Need-slice-write-state Inv-loop2 μ-loop2 Inv-loop μ-loop
 slice-write-state c =
-    let at-test = c .before .before .before .before .before .before in
+    let at-search = c .before .before .before in
+    let at-test = at-search .before .before .before .before .before .before .before in
     let at-loop = at-test .before in
     let at-length = at-loop .before in
     let at-start = at-length .before .before .before in
@@ -184,7 +212,8 @@ slice-write-state c =
 
 add-moved : tie.Need-add-moved Inv-loop2 μ-loop2 Inv-loop μ-loop
 add-moved c =
-    let at-test = c .before .before .before .before .before .before in
+    let at-search = c .before .before .before in
+    let at-test = at-search .before .before .before .before .before .before .before in
     let at-loop = at-test .before in
     let at-start = at-loop .before .before .before .before in
     let i = at-loop .loop .inv in
@@ -199,19 +228,20 @@ loop-less : tie.Need-loop-less Inv-loop2 μ-loop2 Inv-loop μ-loop
 loop-less c = omega arith
 
 loop-again : tie.Need-loop-again Inv-loop2 μ-loop2 Inv-loop μ-loop
+unfolding choice
 loop-again c =
     let at-search = c .before .before in
-    let at-along = at-search .before .before .before in
-    let at-loop = at-along .before .before in
+    let at-test = at-search .before .before .before .before .before .before .before in
+    let at-loop = at-test .before in
     let at-length = at-loop .before in
     let at-start = at-length .before .before .before in
     let len = at-length .line-length .ensures .0 in
-    let h = at-along .before .loop-test .taken in
+    let h = at-test .loop-test .taken in
     let i = at-loop .loop .inv in
     let fits = line-fits (at-start .pre .1 .0) (at-start .pre .0 .sized) in
-    let chosen = search-ends (at-search .loop2 .inv) (c .before .loop2-test .left) in
-    ⊎-elim (λ w. walked-moves _ i h (omega arith) chosen (w .0 .taken) (w .1) (w .2))
-    (λ w. walked-rests _ i h chosen (w .0 .left) (w .1) (w .2)) (c .if3 .came)
+    let chosen = sym (search-ends (at-search .loop2 .inv) (c .before .loop2-test .left)) in
+    ⊎-elim (λ w. walked-moves _ i h (omega arith) chosen (w .0 .taken) (w .2) (w .3))
+    (λ w. walked-rests _ i h chosen (w .0 .left) (w .1) (w .2)) (c .if4 .came)
 
 same-length : tie.Need-same-length Inv-loop2 μ-loop2 Inv-loop μ-loop
 same-length c =
@@ -239,7 +269,8 @@ warp-line-spec =
     add-p
     along-requires
     offsets-requires
-    first-near-requires
+    nearest-byte-requires
+    is-dead-requires
     loop2-holds
     sub-cut-at
     mul-cut-at

@@ -1,28 +1,26 @@
--- The loop's invariant: of the last codes, the first that violates. Assumes nothing.
+-- The loop's invariant: none of so many codes violates, unless one has been met. Assumes nothing.
 use Prim.Native.Nat.{_-_, _<_}
 use native.Mathlib.Omega.{arith}
 use mathlib.Core.Path.{sym, ap, _∙_}
 use mathlib.Core.Logic.{⊎-elim}
-use Rattle.moving.specs.Violation.{rule1, violated, violates}
-use Rattle.warp.proofs.Searching.{Nearest, nearest-found, nearest-on}
+use Rattle.moving.specs.Violation.{violated}
+use Rattle.warp.specs.inner.Quick.{byByte}
+use Rattle.warp.proofs.Searching.{Sparing, sparing-starts, sparing-ends, sparing-on, sparing-whole, byte-of}
 use borrow.Author.Needs.{needs}
-use Rattle.warp.proofs.moves.first_near.Statement.{statement}
-use Rattle.warp.proofs.moves.first_near.Tie as tie
+use Rattle.warp.proofs.moves.is_spared.Statement.{statement}
+use Rattle.warp.proofs.moves.is_spared.Tie as tie
 
 abbrev Inv-loop : tie.InvT-loop
-Inv-loop cuts at first₀ k₀ first k = Nearest cuts at first k
+Inv-loop cuts at spared₀ k₀ spared k = Sparing (byByte cuts at) spared k
 
 abbrev μ-loop : tie.MeasureT-loop
-μ-loop cuts at first₀ k₀ first k = 14 - k
+μ-loop cuts at spared₀ k₀ spared k = 14 - k
 
 loop-holds : tie.Need-loop-holds Inv-loop μ-loop
-loop-holds c = record { few = omega arith; low = omega arith; high = omega arith; none = λ j a u. absurd (omega arith) }
+loop-holds c = sparing-starts
 
-sub-code : tie.Need-sub-code Inv-loop μ-loop
-sub-code c = omega arith
-
-sub-cut-at : tie.Need-sub-cut-at Inv-loop μ-loop
-sub-cut-at c = omega arith
+add-violation : tie.Need-add-violation Inv-loop μ-loop
+add-violation c = omega arith
 
 mul-cut-at : tie.Need-mul-cut-at Inv-loop μ-loop
 mul-cut-at c = omega arith
@@ -49,28 +47,25 @@ loop-again : tie.Need-loop-again Inv-loop μ-loop
 loop-again c =
     let at-cut = c .before .before .before in
     let at-loop = at-cut .before .before in
+    let a = at-loop .before .before .args in
     let i = at-loop .loop .inv in
     let l : at-loop .loop .k < 14 = omega arith in
-    ⊎-elim (λ w. nearest-found i l (w .1))
-    (λ w.
-    let asked = ap violated (sym (c .before .before .violation .ensures)) ∙ sym (c .before .is-violated .ensures) ∙ w .0 .left in
-    nearest-on i l (w .1) (ap (violates rule1 _) (sym (at-cut .cut-at .ensures)) ∙ asked))
+    let is = byte-of (a .cuts .now) (a .t2) (at-loop .loop .k) (at-cut .cut-at .ensures) (c .before .before .violation .ensures) in
+    ⊎-elim (λ w. sparing-ends i l (w .1))
+    (λ w. sparing-on i l (w .1) (ap violated (sym is) ∙ sym (c .before .is-violated .ensures) ∙ w .0 .left))
     (c .if1 .came)
 
 returns : tie.Need-returns Inv-loop μ-loop
-returns c =
-    let i = c .before .loop .inv in
-    ((omega (arith, i .few, i .low), i .high), record { none = λ j k u. i .none j (omega (arith, c .loop-test .left, k .low)) u })
+returns c = λ t. sparing-whole (c .before .loop .inv) (c .loop-test .left) t
 
-pub first-near-spec : {M : Type 1} → statement M
-first-near-spec =
+pub is-spared-spec : {M : Type 1} → statement M
+is-spared-spec =
     tie.close
     (tie.spec
     Inv-loop
     μ-loop
     loop-holds
-    sub-code
-    sub-cut-at
+    add-violation
     mul-cut-at
     array-read-cut-at
     cut-at-requires
