@@ -21,12 +21,12 @@ unfolding violating gather from violated violation limit measured long isStart d
 limits = refl
 
 -- so the nearest cut by document 02's numbers is the nearest in space: a direction's three numbers, squared and added
-squareOf : Step → ℕ
+abbrev squareOf : Step → ℕ
 squareOf w = (w .up + w .down) * (w .up + w .down)
 
-lengthSquared : ℕ → ℕ
+abbrev lengthSquared : ℕ → ℕ
 lengthSquared d = squareOf (direction d along-x) + squareOf (direction d along-y) + squareOf (direction d along-z)
 
 pub lengths : map (λ d. squared d 1) (below 7) ≡ map lengthSquared (below 7)
-unfolding from squared long lengthSquared squareOf direction directions
+unfolding from squared long direction directions
 lengths = refl
