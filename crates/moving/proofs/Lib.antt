@@ -1,3 +1,4 @@
+pub mod AChoice
 pub mod ACube
 pub mod Limits
 pub mod Labels

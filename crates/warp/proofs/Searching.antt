@@ -1,10 +1,9 @@
 -- The search of a point code by code: the nearest so far; and when the bytes alone decide. Assumes nothing.
 --     Searching            the search has come to a code
 --     search-nearer, search-keeps, search-ends
---     Sparing              none has violated so far
 --     by-byte              a cut that is live violates as its byte does, any other not at all
 --     guess-stands         so the nearest by the bytes is the nearest if its cut is live, and if there is none nothing violates
-use Prim.Native.Nat.{ℕ, suc, _+_, _-_, _≤_, _<_}
+use Prim.Native.Nat.{ℕ, suc, _+_, _-_, _≤_}
 use native.Mathlib.Omega.{arith}
 use mathlib.Core.Path.{_≡_, refl, sym, ap, subst, _∙_}
 use mathlib.Core.Logic.{_⊎_, inl, inr}
@@ -13,25 +12,19 @@ use mathlib.Core.List.{List}
 use lib.ListN.{getD}
 use borrow.Author.Tests.{ne-eqb}
 use Rattle.basics.specs.Choice.{if_then_else_}
-use Rattle.basics.proofs.Test.{true-T, false-F, lt-or}
+use Rattle.basics.proofs.Test.{lt-or}
 use Rattle.lattice.specs.declared.Near.{Near}
 use Rattle.lattice.specs.declared.Near.the-variants.{At, Nothing}
 use Rattle.lattice.specs.Direction.{Code}
 use Rattle.lattice.specs.Edge.{neighbour}
 use Rattle.moving.specs.declared.Violation.{Violation}
-use Rattle.moving.specs.declared.Violation.the-variants.{No, Distance}
-use Rattle.moving.specs.Violation.{rule1, violation, violated}
+use Rattle.moving.specs.declared.Violation.the-variants.{No}
+use Rattle.moving.specs.Violation.{rule1, violation}
 use Rattle.moving.specs.Nearest.{nearer, byCode, nearestTo, nearest}
 use Rattle.moving.specs.Reading.{Reading, live, cutAlong, violationAlong, violationBy}
 use Rattle.moving.specs.Moving.{choice}
-use Rattle.moving.proofs.Nearest.{Quiet, nearest-none, nearest-le, fewer-none, fewer-same}
+use Rattle.moving.proofs.Nearest.{nearest-le, fewer-none, fewer-same}
 use Rattle.warp.specs.inner.Quick.{liveAlong, byByte}
-
--- what does not violate is no violation
-not-violated : (v : Violation) → violated v ≡ false → v ≡ No
-unfolding violated
-not-violated No e = refl
-not-violated (Distance d) e = cc
 
 -- the search has come to a code: of those before it, `found` is the nearest, and `best` says how near it is, if any are left
 pub record Searching (by : ℕ → Violation) (found : ℕ) (best : Violation) (c : ℕ) : Type 0 where
@@ -82,32 +75,6 @@ module _ {by : ℕ → Violation} {found : ℕ} {best : Violation} {c : ℕ} (i 
 
   pub search-ends : 15 ≤ c → found ≡ nearest by
   search-ends l = let e : c - 1 ≡ 14 = omega (arith, i .high) in rw e at (i .is)
-
--- the same without keeping which: none of the codes 1 to k violates, if `spared` still holds
-pub record Sparing (by : ℕ → Violation) (spared : Bool) (k : ℕ) : Type 0 where
-  pub few : k ≤ 14
-  pub quiet : spared ≡ true → Quiet by k
-
-pub sparing-starts : {by : ℕ → Violation} {spared : Bool} → Sparing by spared 0
-sparing-starts = record { few = omega arith; quiet = λ t c l u. absurd (omega arith) }
-
-module _ {by : ℕ → Violation} {spared : Bool} {k : ℕ} (i : Sparing by spared k) (l : k < 14) where
-  pub sparing-ends : {spared' : Bool} → spared' ≡ false → Sparing by spared' (k + 1)
-  sparing-ends e = record { few = omega arith; quiet = λ t. absurd (false-F _ e (true-T _ t)) }
-
-  pub sparing-on : {spared' : Bool} → spared' ≡ spared → violated (by (k + 1)) ≡ false → Sparing by spared' (k + 1)
-  sparing-on e v =
-      record {
-        few = omega arith;
-        quiet = λ t c a u.
-            elim (lt-or k c) [
-              | inl w ↦ let z : c ≡ k + 1 = omega arith in rw z (not-violated _ v)
-              | inr w ↦ i .quiet (sym e ∙ t) c a w
-            ];
-      }
-
-pub sparing-whole : {by : ℕ → Violation} {spared : Bool} {k : ℕ} → Sparing by spared k → 14 ≤ k → spared ≡ true → nearest by ≡ 0
-sparing-whole {by} i l t = nearest-none by 14 (λ c a u. i .quiet t c a (omega arith))
 
 -- the byte of a code by the place in the list of offsets
 pub byte-of : (cuts at : List ℕ) (k : ℕ) {t : ℕ} {v : Violation} → t ≡ getD cuts (getD at k 0) 0 → v ≡ violation rule1 (k + 1) t

@@ -67,27 +67,11 @@ fn is_live_by(s: Sizes, samples: &[i16], state: &[u8], q: Site, code: usize) -> 
     }
 }
 
-// No byte violates the point, whatever the labels. No test ends early, so that the compiler unrolls
-// the loop and branches nowhere.
-fn is_spared(cuts: &[u8], at: [usize; 14]) -> bool
-    ensures { λ r. ⌜ (r ≡ true → nearest (byByte (now (cuts .entry)) at) ≡ 0) ⌝ }
-{
-    let mut spared = true;
-    for k in 0..14 {
-        if violation::is_violated(violation::violation(k + 1, bytes::cut_at(cuts, at[k]))) {
-            spared = false;
-        }
-    }
-    spared
-}
-
-// The code whose byte violates the point and is the nearest, whatever the labels, or 0.
+// The code whose byte violates the point and is the nearest, whatever the labels, or 0. No test ends
+// early, so that the compiler unrolls the loop.
 fn nearest_byte(cuts: &[u8], at: [usize; 14]) -> usize
     ensures { λ r. ⌜ r ≡ nearest (byByte (now (cuts .entry)) at) ⌝ }
 {
-    if is_spared(cuts, at) {
-        return 0;
-    }
     let mut found: usize = 0;
     let mut best = Violation::No;
     for k in 0..14 {

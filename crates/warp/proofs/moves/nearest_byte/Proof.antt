@@ -17,12 +17,6 @@ Inv-loop cuts at found₀ best₀ k₀ found best k = Searching (byByte cuts at)
 abbrev μ-loop : tie.MeasureT-loop
 μ-loop cuts at found₀ best₀ k₀ found best k = 14 - k
 
-is-spared-requires : tie.Need-is-spared-requires Inv-loop μ-loop
-is-spared-requires c κs = search needs
-
-returns : tie.Need-returns Inv-loop μ-loop
-returns c = sym (c .before .is-spared .ensures (c .if1 .taken))
-
 loop-holds : tie.Need-loop-holds Inv-loop μ-loop
 loop-holds c = search-starts refl refl
 
@@ -57,7 +51,7 @@ loop-again : tie.Need-loop-again Inv-loop μ-loop
 loop-again c =
     let at-cut = c .before .before .before in
     let at-loop = at-cut .before .before in
-    let a = at-loop .before .before .before .before .args in
+    let a = at-loop .before .before .args in
     let i = at-loop .loop .inv in
     let k = at-loop .loop .k in
     let l : k + 1 ≤ 14 = omega arith in
@@ -65,10 +59,10 @@ loop-again c =
     let asked = sym (c .before .is-nearer .ensures) in
     ⊎-elim (λ w. search-nearer i l is (asked ∙ w .0 .taken) (w .1) (w .2))
     (λ w. search-keeps i l (ap (λ (v : Violation). nearer v (at-loop .loop .best)) (sym is) ∙ asked ∙ w .0 .left) (w .1) (w .2))
-    (c .if2 .came)
+    (c .if1 .came)
 
-returns-2 : tie.Need-returns-2 Inv-loop μ-loop
-returns-2 c = search-ends (c .before .loop .inv) (omega (arith, c .loop-test .left))
+returns : tie.Need-returns Inv-loop μ-loop
+returns c = search-ends (c .before .loop .inv) (omega (arith, c .loop-test .left))
 
 pub nearest-byte-spec : {M : Type 1} → statement M
 nearest-byte-spec =
@@ -76,8 +70,6 @@ nearest-byte-spec =
     (tie.spec
     Inv-loop
     μ-loop
-    is-spared-requires
-    returns
     loop-holds
     add-violation
     mul-cut-at
@@ -89,4 +81,4 @@ nearest-byte-spec =
     add-k
     loop-less
     loop-again
-    returns-2)
+    returns)
