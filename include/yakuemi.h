@@ -14,7 +14,8 @@
  *   cuts      7N     the edge from point p in direction d (0 to 6) has byte 7p+d: how many 256ths along from p the skin crosses it;
  *                    1 to 255 exactly where one end's sample is above zero and the other's below, else 0
  *   state     N      written: 0 if the point did not move; d+1 if it moved onto the cut of its edge in direction d, d+8 if onto that of
- *                    the edge that leads to it in direction d
+ *                    the edge that leads to it in direction d. Of the cuts that are too near a point at its turn it moves onto the
+ *                    nearest, and of those as near onto the one with the lower byte here
  *   rows      4T     written: the tetrahedra, four ids a row; an id is p for a point, N+7p+d for the cut of an edge
  *
  * A row a b c d has a positive volume: (b-a) x (c-a) . (d-a) is above zero, as VTK, Gmsh and Abaqus want it.
@@ -110,7 +111,7 @@ struct yakuemi_filled {
 };
 
 /*
- * Fills a block: moves the points that sit too near the skin and writes the rows.
+ * Fills a block: moves the points that sit too near the skin, each onto the nearest cut, and writes the rows.
  *
  * Lengths: N samples, 7N cuts, N state bytes, and a row table of any length. What state and rows held before does not matter.
  *
@@ -143,7 +144,7 @@ struct yakuemi_placed {
  * Answers 0 with the place, for every id of the rows of a filled block. Or, with the place (0, 0, 0), the first of these
  * that applies: 1, 3, 4; 8 if the id is 8N or more, or is that of a cut whose edge does not exist, has byte 0 or has an end with
  * a non-zero state byte; 9 if the point's state byte is above 14, or names an edge that does not exist, has byte 0 or has its cut too far
- * from the point to move it.
+ * from the point to move it. (A byte that names a cut near enough, though not the nearest, has its place.)
  */
 struct yakuemi_placed yakuemi_place(uint32_t nx, uint32_t ny, uint32_t nz,
                                     const uint8_t *cuts, size_t cuts_len,

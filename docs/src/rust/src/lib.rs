@@ -313,7 +313,8 @@ pub fn measures(sizes: [u32; 3]) -> Result<Measures, Refusal> {
     }
 }
 
-/// Fills a block: N samples, 7N cut bytes, N state bytes, and a row table of any length.
+/// Fills a block: N samples, 7N cut bytes, N state bytes, and a row table of any length. Points that sit too near the skin move, each onto the
+/// nearest cut.
 pub fn fill(sizes: [u32; 3], samples: &[i16], cuts: &[u8], state: &mut [u8], rows: &mut [u32]) -> Result<Filling, Refusal> {
     let f = raw::fill(sizes, samples, cuts, state, rows);
     match f.number {
