@@ -1,29 +1,21 @@
 -- Document 02, F-2: which of the cuts that violate it a point moves to does not change any row. A row's ids are those of its labels, and
 -- which way round its last two stand is decided by the tetrahedron alone. Assumes that cut bytes are bytes, and nothing else.
---     same-rows        tables by which the same points have moved give the same rows
---     rows-as-before   so the rows of an accepted block, as the row table holds them, are those of document 01's choice
---     moved-as-before  and M is
+--     same-rows       tables by which the same points have moved give the same rows
+--     rows-as-before  so the rows of an accepted block, as the row table holds them, are those of document 01's choice
 use Prim.Native.Nat.{ℕ, _≤_}
 use mathlib.Core.Path.{_≡_, sym, ap, _∙_}
-use mathlib.Core.Logic.{inl, inr}
-use mathlib.Core.Bool.{not}
 use mathlib.Core.List.{List}
-use lib.ListN.{length, getD}
-use borrow.Author.Tests.{eq-eqb, ne-eqb}
-use Rattle.basics.proofs.Search.{count-same}
 use Rattle.lattice.specs.Direction.{directionOf}
 use Rattle.moving.specs.Violation.{limit}
-use Rattle.moving.specs.Reading.{Reading, isMove, saysZero}
+use Rattle.moving.specs.Reading.{Reading}
 use Rattle.moving.specs.Moving.{outset, stateOf}
 use Rattle.moving.specs.Block.{Block, Bytes, readingOf}
 use Rattle.moving.proofs.Settled.{Reached}
-use Rattle.moving.proofs.Bytes.{same-or}
 use Rattle.moving.proofs.SamePoints.{SameMoved, same-label}
-use Rattle.moving.proofs.Moved.{state-reached, reached-nonzero}
+use Rattle.moving.proofs.Moved.{state-reached}
 use Rattle.moving.proofs.Theorems.{stateBefore, same-points, before-reached}
 use Rattle.filling.specs.Check.{Accepted}
 use Rattle.filling.specs.Mesh.{rowsWith, table}
-use Rattle.filling.specs.Fill.{movedCount}
 use Rattle.filling.proofs.Fits.{Fits, accepted-fits}
 use Rattle.faces.proofs.Signed.{signedRows}
 use Rattle.volumes.proofs.Sound.{reach}
@@ -45,19 +37,3 @@ pub rows-as-before : (b : Block) → Bytes (b .cuts) → Accepted b
 rows-as-before b bytes h =
     let m = readingOf b in
     ap table (same-rows m (accepted-fits b h) bytes limit-reach (before-reached m) (state-reached m) (same-points m))
-
-pub moved-as-before : (m : Reading) → movedCount (stateBefore m) ≡ movedCount (stateOf m)
-unfolding movedCount
-moved-as-before m =
-    let long : length (stateBefore m) ≡ length (stateOf m) = before-reached m .long ∙ sym (state-reached m .long) in
-    rw long (count-same (λ p. isMove (getD (stateBefore m) p 0)) (λ p. isMove (getD (stateOf m) p 0)) (length (stateOf m)) (λ p l. same p))
-  where
-    marked : (p : ℕ) → saysZero (getD (stateBefore m) p 0) ≡ saysZero (getD (stateOf m) p 0)
-    marked p =
-        elim (same-or (getD (stateBefore m) p 0) 0) [
-          | inl z ↦ ap not (eq-eqb _ _ z ∙ sym (eq-eqb _ _ (same-points m .to p z)))
-          | inr n ↦ ap not (ne-eqb _ _ n ∙ sym (ne-eqb _ _ (λ z. n (same-points m .back p z))))
-        ]
-
-    same : (p : ℕ) → isMove (getD (stateBefore m) p 0) ≡ isMove (getD (stateOf m) p 0)
-    same p = reached-nonzero m (before-reached m) p ∙ marked p ∙ sym (reached-nonzero m (state-reached m) p)

@@ -6,3 +6,4 @@ pub mod Demanded
 pub mod Fits
 pub mod Written
 pub mod InBlock
+pub mod Before

@@ -44,13 +44,8 @@ unfoldable pub theCases : List Case
 theCases =
     -- codes 1 and 4 of point 0 violate: "4 times t squared on long edges and 3 times t squared on short ones", 14,400 and 13,068
     case 0 (0 := 60 ∷ 3 := 66 ∷ []) (0 := 4 ∷ [])
-    -- 12,996 and 13,068
-    ∷ case 0 (0 := 57 ∷ 3 := 66 ∷ []) (0 := 1 ∷ [])
     -- codes 4 and 11 of point 8, "With t counted from the point": 100 and 56
     ∷ case 8 (3 := 200 ∷ 59 := 100 ∷ []) (8 := 11 ∷ [])
-    -- "a tie goes to the lower code": 100 from the start and from the end; codes 11 and 13 of point 8
-    ∷ case 8 (3 := 156 ∷ 59 := 100 ∷ []) (8 := 4 ∷ [])
-    ∷ case 8 (3 := 200 ∷ 19 := 200 ∷ []) (8 := 11 ∷ [])
     -- "A cut is live while both its ends have non-zero labels": once point 0 has moved, the cut towards point 8 no longer moves it
     ∷ case 0 (0 := 63 ∷ 3 := 151 ∷ []) (0 := 1 ∷ [])
     -- "in ascending number": point 1 moves before point 8 does, whose move would have ended that cut

@@ -2,7 +2,7 @@
 --     nearest-cut       the code by which a point moves violates it, none that violates is nearer, none as near has a lower code
 --     same-points       the same points move as by the first violating code
 --     same-byte-or-two  "State tables .. change only where two or more cuts violate one point at its turn"
--- That rows do not change at all is shown of an accepted block in conformity/proofs/SameRows.
+-- What follows for places and M is in filling/proofs/Before; that rows of an accepted block do not change at all, in conformity/proofs/SameRows.
 use Prim.Native.Nat.{ℕ}
 use native.Mathlib.Omega.{arith}
 use mathlib.Core.Path.{_≡_}
