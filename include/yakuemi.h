@@ -14,8 +14,8 @@
  *   cuts      7N     the edge from point p in direction d (0 to 6) has byte 7p+d: how many 256ths along from p the skin crosses it;
  *                    1 to 255 exactly where one end's sample is above zero and the other's below, else 0
  *   state     N      written: 0 if the point did not move; d+1 if it moved onto the cut of its edge in direction d, d+8 if onto that of
- *                    the edge that leads to it in direction d. Of the cuts that are too near a point at its turn it moves onto the
- *                    nearest, and of those as near onto the one with the lower byte here
+ *                    the edge that leads to it in direction d. Points have their turns in ascending number; of the cuts too near it
+ *                    whose other end has not moved a point takes the nearest, and of those as near the one with the lower byte here
  *   rows      4T     written: the tetrahedra, four ids a row; an id is p for a point, N+7p+d for the cut of an edge
  *
  * A row a b c d has a positive volume: (b-a) x (c-a) . (d-a) is above zero, as VTK, Gmsh and Abaqus want it.

@@ -2,7 +2,7 @@
 -- winding of a tetrahedron's type and the parity of a row decide as the six-volume does. And their count depends neither on cuts
 -- nor on places. Assumes nothing.
 --     rows-length, rows-are        over any labels and places
---     mesh-length, mesh-table      when the points of a block have moved by document 01's rules
+--     mesh-length, mesh-table      when the points of a block have moved by the papers' rules
 use Prim.Native.Nat.{ℕ}
 use mathlib.Core.Path.{_≡_, refl, sym, ap, _∙_}
 use mathlib.Core.List.{List, [], _∷_, map}

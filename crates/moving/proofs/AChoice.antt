@@ -1,5 +1,6 @@
 -- Distances of single cuts, and the choice among some of them, all live: document 02's F-2 by itself. Assumes nothing. (Files are checked in the
 -- order of their names: this one first, so that a wrong distance or a wrong choice is refused by what it gives.)
+--     distances, choices
 use Prim.Native.Nat.{ℕ}
 use mathlib.Core.Path.{_≡_, refl}
 use mathlib.Core.List.{List, [], _∷_, map}
@@ -28,7 +29,7 @@ chosen bytes = nearest (λ c. violation rule1 c (getD (tableOf 15 bytes) c 0))
 
 unfoldable pub theBytes : List (List Entry)
 theBytes =
-    -- the shorter t is the farther cut, and not quite
+    -- the shorter t is the farther cut; and just not
     (1 := 60 ∷ 4 := 66 ∷ [])
     ∷ (1 := 57 ∷ 4 := 66 ∷ [])
     -- from the ends of edges; from a start and an end
@@ -36,12 +37,12 @@ theBytes =
     ∷ (4 := 100 ∷ 11 := 200 ∷ [])
     -- "a tie goes to the lower code"
     ∷ (2 := 40 ∷ 9 := 216 ∷ [])
-    ∷ (3 := 10 ∷ 5 := 80 ∷ 6 := 11 ∷ 10 := 246 ∷ [])
+    ∷ (3 := 10 ∷ 5 := 80 ∷ 6 := 12 ∷ 10 := 246 ∷ [])
     -- one violates; none does
     ∷ (1 := 64 ∷ 12 := 151 ∷ [])
     ∷ (1 := 64 ∷ 12 := 150 ∷ [])
     ∷ []
 
-pub choices : map chosen theBytes ≡ 4 ∷ 1 ∷ 11 ∷ 11 ∷ 2 ∷ 6 ∷ 12 ∷ 0 ∷ []
+pub choices : map chosen theBytes ≡ 4 ∷ 1 ∷ 11 ∷ 11 ∷ 2 ∷ 3 ∷ 12 ∷ 0 ∷ []
 unfolding theBytes tableOf nearestTo nearer violation limit measured squared long isStart directionOf
 choices = refl

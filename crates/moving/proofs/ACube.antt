@@ -1,5 +1,5 @@
 -- Moving in a block of one cube, whose points are the corners 0 to 7 and the centre 8: which points move, and by which codes.
--- Assumes nothing. (Files are checked in the order of their names: these first, so that a wrong rule is refused by what it gives.)
+-- Assumes nothing. (Files are checked in the order of their names: AChoice and this one first, so that a wrong rule is refused by what it gives.)
 --     codes                   the bytes that are codes
 --     one-cube                the state tables of the cases
 use Prim.Native.Nat.{ℕ}

@@ -21,8 +21,8 @@ use Rattle.moving.specs.declared.Label.the-variants.{Zero}
 use Rattle.moving.specs.declared.Violation.the-variants.{No, Distance}
 use Rattle.moving.specs.Label.{isZero}
 use Rattle.moving.specs.Violation.{Rule, limit, measured, squared, violation, violated, violates}
-use Rattle.moving.specs.Reading.{Reading, isMove, saysZero, labelAfter, live, cutAlong, violationAlong, violatedBy}
-use Rattle.moving.proofs.Settled.{NonZero, Edge, Violating, MayMove}
+use Rattle.moving.specs.Reading.{Reading, isMove, saysZero, labelAfter, live, cutAlong, violationAlong}
+use Rattle.moving.proofs.Settled.{NonZero, Violating, violatedBy, MayMove}
 
 -- two numbers are equal or not
 pub same-or : (a b : ℕ) → (a ≡ b) ⊎ (a ≡ b → ⊥)

@@ -1,4 +1,6 @@
--- Document 02's choice, the nearest violating cut: a point moves, to a cut that violates it, exactly if there is one. Assumes nothing.
+-- Document 02's choice, the nearest violating cut. Assumes nothing.
+--     choice-nearest                 F-2's laws of it
+--     choice-sound, choice-chooser   a point moves, to a cut that violates it, exactly if there is one
 use Prim.Native.Nat.{ℕ}
 use native.Mathlib.Omega.{arith}
 use mathlib.Core.Path.{_≡_, subst}

@@ -11,8 +11,8 @@ use Rattle.basics.specs.Choice.{if_then_else_}
 use Rattle.basics.specs.Lists.{firstFrom}
 use Rattle.basics.proofs.Test.{false-F, lt-or}
 use Rattle.basics.proofs.Search.{first-found}
-use Rattle.moving.specs.Reading.{Reading, violatedBy}
-use Rattle.moving.proofs.Settled.{MayMove}
+use Rattle.moving.specs.Reading.{Reading}
+use Rattle.moving.proofs.Settled.{violatedBy, MayMove}
 use Rattle.moving.proofs.Bytes.{violating-of, violating-i}
 use Rattle.moving.proofs.Taking.{Sound, Complete, Chooser}
 

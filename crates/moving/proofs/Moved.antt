@@ -4,9 +4,9 @@
 --     stateAt-suc, stateAt-ahead   one turn more; points ahead are as at the outset
 --     state-settled                the state table is settled: above all, reached from the outset
 --     reached-byte, reached-move, reached-nonzero, reached-zero    what its bytes say
-use Prim.Native.Nat.{ℕ, suc, _≤_, _<_}
+use Prim.Native.Nat.{ℕ, suc, _≤_}
 use native.Mathlib.Omega.{arith}
-use mathlib.Core.Path.{_≡_, refl, ap, sym, _∙_, subst}
+use mathlib.Core.Path.{_≡_, refl, ap, sym, _∙_}
 use mathlib.Core.Logic.{_⊎_, inl, inr}
 use mathlib.Core.Bool.{Bool, true, false}
 use mathlib.Core.List.{List}

@@ -1,10 +1,11 @@
 -- The nearest code, whatever violates: what it is, and when there is none. Assumes nothing.
---     Nearest           a code violates, no violating code is nearer, and none as near has a lower number
---     nearest-or        either it is that, or nothing violates
---     nearest-none      so if nothing does, it is 0
---     nearest-le        it is no higher than the codes that are asked
---     nearest-unique    no two are
---     fewer-same        where some violations are left out, the nearest stays if it is not
+--     Nearest                 a code violates, no violating code is nearer, and none as near has a lower number
+--     Quiet                   nothing violates
+--     nearest-or              one of the two
+--     nearest-none            so if nothing violates it is 0
+--     nearest-le              it is no higher than the codes that are asked
+--     nearest-unique          no two are nearest
+--     fewer-none, fewer-same  where some violations are left out: none stays none, and the nearest stays if it is not left out
 use Prim.Native.Nat.{ℕ, zero, suc, _≤_, _<_}
 use native.Mathlib.Omega.{arith}
 use mathlib.Core.Path.{_≡_, refl, sym, ap, subst, _∙_}
@@ -35,7 +36,7 @@ module _ (by : ℕ → Violation) where
   pub record Nearest (n c d : ℕ) : Type 0 where
     pub low : 1 ≤ c
     pub high : c ≤ n
-    -- the chosen code violates, at the distance d squared
+    -- the chosen code violates, at the squared distance d
     pub at : by c ≡ Distance d
     -- "nearest": no violating code is nearer
     pub least : (e x : ℕ) → 1 ≤ e → e ≤ n → by e ≡ Distance x → d ≤ x

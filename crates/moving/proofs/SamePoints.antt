@@ -16,7 +16,7 @@ use Rattle.lattice.specs.Counts.{points}
 use Rattle.moving.specs.Reading.{Reading, labelAfter}
 use Rattle.moving.specs.Order.{turn, moveBy}
 use Rattle.moving.proofs.Settled.{NonZero, MayMove}
-use Rattle.moving.proofs.Bytes.{same-or, label-still, label-moved, nonzero-still, nonzero-outset, nonzero-i}
+use Rattle.moving.proofs.Bytes.{same-or, label-still, label-moved}
 use Rattle.moving.proofs.Turns.{
   entryOf,
   turn-still,

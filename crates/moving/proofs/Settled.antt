@@ -4,7 +4,7 @@
 --     Reached                all that faces, volumes, places and the agreement need; every run of moves gives it
 --     Settled                and at the end no live cut violates a point
 use Prim.Native.Nat.{ℕ, _<_}
-use mathlib.Core.Bool.{not}
+use mathlib.Core.Bool.{Bool, not}
 use mathlib.Core.List.{List}
 use mathlib.Core.Path.{_≡_}
 use mathlib.Core.Logic.{_⊎_}
@@ -16,8 +16,8 @@ use Rattle.lattice.specs.Direction.{Code}
 use Rattle.lattice.specs.Edge.{neighbour}
 use Rattle.moving.specs.declared.Label.{Label}
 use Rattle.moving.specs.Label.{isZero}
-use Rattle.moving.specs.Violation.{violates}
-use Rattle.moving.specs.Reading.{Reading, cutAlong, labelAfter}
+use Rattle.moving.specs.Violation.{violated, violates}
+use Rattle.moving.specs.Reading.{Reading, cutAlong, labelAfter, violationBy}
 
 -- a label that is plus or minus
 abbrev pub NonZero : Label → Type 0
@@ -36,6 +36,10 @@ module _ (m : Reading) where
     pub here : NonZero (labelAfter (m .label) codes p)
     pub there : NonZero (labelAfter (m .label) codes q)
     pub near : T (violates (m .rule) c (cutAlong m p c q))
+
+  -- a live cut violates p by the code c, as a test
+  abbrev pub violatedBy : List ℕ → ℕ → ℕ → Bool
+  violatedBy codes p c = violated (violationBy m codes p c)
 
   -- p may move by the code c
   abbrev pub MayMove : List ℕ → ℕ → ℕ → Type 0

@@ -1,4 +1,5 @@
 -- What document 02 says of F-2, over document 01's choice, on one page. Assumes nothing.
+--     stateBefore       the state table by document 01's choice; before-reached: it too was reached by moves
 --     nearest-cut       the code by which a point moves violates it, none that violates is nearer, none as near has a lower code
 --     same-points       the same points move as by the first violating code
 --     same-byte-or-two  "State tables .. change only where two or more cuts violate one point at its turn"

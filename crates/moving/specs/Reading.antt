@@ -1,8 +1,9 @@
 -- What moving reads, and the labels and violations at any time of it. Rules and orders are stated over this.
---     Reading                  sizes, labels at the outset, cut bytes, a rule
---     isMove, saysZero         what a state byte says of its point
---     labelAfter, live         labels while points move
---     violationBy, violatedBy  a live cut violates a point, and from how far
+--     Reading                       sizes, labels at the outset, cut bytes, a rule
+--     isMove, saysZero              what a state byte says of its point
+--     labelAfter, live              labels while points move
+--     cutAlong                      the cut byte of an edge
+--     violationAlong, violationBy   how a live cut violates a point
 use Prim.Native.Nat.{ℕ}
 use mathlib.Core.Bool.{Bool, not, _&&_}
 use mathlib.Core.List.{List}
@@ -18,7 +19,7 @@ use Rattle.moving.specs.declared.Label.the-variants.{Zero}
 use Rattle.moving.specs.declared.Violation.{Violation}
 use Rattle.moving.specs.declared.Violation.the-variants.{No}
 use Rattle.moving.specs.Label.{isZero}
-use Rattle.moving.specs.Violation.{Rule, violation, violated}
+use Rattle.moving.specs.Violation.{Rule, violation}
 
 pub record Reading : Type 0 where
   pub sizes : Sizes
@@ -54,6 +55,3 @@ module _ (m : Reading) where
 
   abbrev pub violationBy : List ℕ → ℕ → ℕ → Violation
   violationBy codes p c = violationAlong codes p c (neighbour (m .sizes) p c)
-
-  abbrev pub violatedBy : List ℕ → ℕ → ℕ → Bool
-  violatedBy codes p c = violated (violationBy codes p c)

@@ -1,5 +1,5 @@
 -- Document 01, "Moving points", and document 02, F-2: when a cut violates an end of its edge, and how far from that end it is.
---     Rule, rule1          the limits
+--     Rule, rule1, limit   the limits
 --     measured, squared    how far a cut is from an end
 --     violation            no, or that distance squared: the one test, for everyone who asks
 --     violated, violates   only whether it does

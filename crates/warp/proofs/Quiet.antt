@@ -2,8 +2,8 @@
 use Prim.Native.Nat.{ℕ, zero, suc, _+_, _*_, _-_, _≤_, _<_}
 use native.Mathlib.Omega.{arith}
 use mathlib.Core.Path.{_≡_, refl, sym, ap, subst, _∙_}
-use mathlib.Core.Logic.{_⊎_, inl, inr}
-use mathlib.Core.Bool.{true}
+use mathlib.Core.Logic.{inl, inr}
+use mathlib.Core.Bool.{false}
 use mathlib.Core.List.{List, [], _∷_}
 use lib.ListN.{getD}
 use Rattle.basics.proofs.Test.{lt-or}
@@ -27,9 +27,9 @@ use Rattle.ground.proofs.Points.{sited}
 use Rattle.ground.proofs.Lines.{line-stands, line-at}
 use Rattle.ground.proofs.Sites.{site-near}
 use Rattle.ground.proofs.FarEnds.{start-small, start-first, start-fourth, start-sixth, start-within}
-use Rattle.warp.specs.inner.Quick.{liveAlong, Offsets, byByte, Uncut, Bare}
+use Rattle.warp.specs.inner.Quick.{deadAlong, Offsets, byByte, Uncut, Bare}
 use Rattle.warp.proofs.Offsets.{byte-start, byte-end}
-use Rattle.warp.proofs.Searching.{Stands, guess-none, guess-stands, live-at}
+use Rattle.warp.proofs.Searching.{Stands, guess-none, guess-stands, not-dead, live-at}
 
 -- a point without a cut does not move: a byte of 0 is no cut
 pub bare-stays : (m : Reading) (codes : List ℕ) (p : ℕ) → Bare (m .sizes) (m .cuts) p → choice m codes p ≡ 0
@@ -136,13 +136,12 @@ offset-byte m q at {c = c} i h g o k is e near =
 -- the nearest by the bytes, if there is none or its cut is live
 pub guess-at : (m : Reading) (codes : List ℕ) (q : Site) (at : List ℕ) {p c : ℕ} → m .rule ≡ rule1 → q .own ≡ p
     → Sized (m .sizes) → Sited (m .sizes) q → Offsets (m .sizes) q at → c ≡ nearest (byByte (m .cuts) at)
-    → (c ≡ 0) ⊎ (liveAlong (m .label) codes (q .own) (neighbour (m .sizes) (q .own) c) ≡ true)
-    → c ≡ nearest (violationBy m codes p)
+    → deadAlong (m .label) codes (q .own) c (neighbour (m .sizes) (q .own) c) ≡ false → c ≡ nearest (violationBy m codes p)
 unfolding byByte
 guess-at m codes q at {p} {c} rule i h g o e l =
     guess-stands m codes p byte (λ k code. offset-byte m q at i h g o code refl)
     (e ∙ (λ j. nearest (λ k. violation (sym rule j) k (byte k))))
-    (elim l [ inl z ↦ inl z | inr a ↦ inr (live-at m codes c i a) ])
+    (elim (not-dead (m .label) codes (q .own) c _ l) [ inl z ↦ inl z | inr a ↦ inr (live-at m codes c i a) ])
   where
     byte : ℕ → ℕ
     byte k = getD (m .cuts) (getD at (k - 1) 0) 0

@@ -1,30 +1,32 @@
 -- The search of a point code by code: the nearest so far; and when the bytes alone decide. Assumes nothing.
---     Searching            the search has come to a code
---     search-nearer, search-keeps, search-ends
---     by-byte              a cut that is live violates as its byte does, any other not at all
---     guess-stands         so the nearest by the bytes is the nearest if its cut is live, and if there is none nothing violates
+--     Searching                          the search has come to a code: search-starts, search-nearer, search-keeps, search-ends
+--     by-byte                            a cut that is live violates as its byte does, any other not at all; so by-far, when-dead
+--     guess-none, guess-stands           so if nothing violates by the bytes nothing does, and the nearest by the bytes is the nearest if it is live
+--     byte-of, Stands, not-dead, live-at what the code asks, in the definitions' terms
 use Prim.Native.Nat.{ℕ, suc, _+_, _-_, _≤_}
 use native.Mathlib.Omega.{arith}
 use mathlib.Core.Path.{_≡_, refl, sym, ap, subst, _∙_}
 use mathlib.Core.Logic.{_⊎_, inl, inr}
-use mathlib.Core.Bool.{Bool, true, false}
+use mathlib.Core.Bool.{Bool, true, false, not}
 use mathlib.Core.List.{List}
 use lib.ListN.{getD}
-use borrow.Author.Tests.{ne-eqb}
+use lib.Dec.{eqb}
+use borrow.Author.Tests.{eqb-true, ne-eqb}
 use Rattle.basics.specs.Choice.{if_then_else_}
 use Rattle.basics.proofs.Test.{lt-or}
 use Rattle.lattice.specs.declared.Near.{Near}
 use Rattle.lattice.specs.declared.Near.the-variants.{At, Nothing}
 use Rattle.lattice.specs.Direction.{Code}
 use Rattle.lattice.specs.Edge.{neighbour}
+use Rattle.moving.specs.declared.Label.{Label}
 use Rattle.moving.specs.declared.Violation.{Violation}
 use Rattle.moving.specs.declared.Violation.the-variants.{No}
 use Rattle.moving.specs.Violation.{rule1, violation}
 use Rattle.moving.specs.Nearest.{nearer, byCode, nearestTo, nearest}
-use Rattle.moving.specs.Reading.{Reading, live, cutAlong, violationAlong, violationBy}
+use Rattle.moving.specs.Reading.{Reading, cutAlong, violationAlong, violationBy}
 use Rattle.moving.specs.Moving.{choice}
 use Rattle.moving.proofs.Nearest.{nearest-le, fewer-none, fewer-same}
-use Rattle.warp.specs.inner.Quick.{liveAlong, byByte}
+use Rattle.warp.specs.inner.Quick.{liveAlong, deadAlong, byByte}
 
 -- the search has come to a code: of those before it, `found` is the nearest, and `best` says how near it is, if any are left
 pub record Searching (by : ℕ → Violation) (found : ℕ) (best : Violation) (c : ℕ) : Type 0 where
@@ -142,6 +144,18 @@ module _ (m : Reading) (codes : List ℕ) (p : ℕ) where
               let z : c ≡ 0 = omega arith in
               z ∙ sym (fewer-none guessed (violationBy m codes p) 14 fewer (sym e ∙ z))
         ]
+
+-- there is no code, or its cut is live
+pub not-dead : (label : ℕ → Label) (codes : List ℕ) (p c : ℕ) (n : Near) → deadAlong label codes p c n ≡ false
+    → (c ≡ 0) ⊎ (liveAlong label codes p n ≡ true)
+unfolding deadAlong
+not-dead label codes p c n e = go (eqb c 0) refl (liveAlong label codes p n) refl e
+  where
+    go : (z : Bool) → eqb c 0 ≡ z → (b : Bool) → liveAlong label codes p n ≡ b → (if z then false else not b) ≡ false
+        → (c ≡ 0) ⊎ (liveAlong label codes p n ≡ true)
+    go true z b l e = inl (eqb-true c 0 z)
+    go false z true l e = inr l
+    go false z false l e = inr (l ∙ sym e)
 
 -- what the code asks of the cut by a code at a site with the number p
 pub live-at : (m : Reading) (codes : List ℕ) (c : ℕ) {own p : ℕ} {b : Bool} → own ≡ p

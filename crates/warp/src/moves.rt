@@ -11,8 +11,6 @@ use lattice::edges;
 use lattice::numbers;
 use moving::Violation;
 ghost use mathlib.Core.Path.{_≡_};
-ghost use mathlib.Core.Bool.{true, false};
-ghost use mathlib.Core.Logic.{_⊎_};
 ghost use Prim.Native.Nat.{_+_, _<_, _≤_};
 ghost use lib.ListN.{length, replicate};
 ghost use Rattle.lattice.specs.Axis.{along-x};
@@ -27,7 +25,7 @@ ghost use Rattle.moving.specs.Moving.{stateAt, stateOf};
 ghost use Rattle.moving.specs.Block.{blockOf, readingOf, Tabled};
 ghost use Rattle.filling.specs.Fill.{movedCount};
 ghost use Rattle.ground.specs.inner.Lines.{Line};
-ghost use Rattle.warp.specs.inner.Quick.{liveAlong, byByte};
+ghost use Rattle.warp.specs.inner.Quick.{liveAlong, deadAlong, byByte};
 
 // A point's label is zero: it has moved, or its sample is zero.
 fn is_faded(samples: &[i16], state: &[u8], p: usize) -> bool
@@ -90,8 +88,7 @@ fn is_dead(s: Sizes, samples: &[i16], state: &[u8], q: Site, code: usize) -> boo
     requires { ⌜ (length (now samples) ≡ points s) × (length (now state) ≡ points s) ⌝ }
     requires { ⌜ code ≤ 14 ⌝ }
     requires { ⌜ Sited s q ⌝ }
-    ensures { λ r. ⌜ (r ≡ false → (code ≡ 0)
-        ⊎ (liveAlong (labels (now (samples .entry))) (now (state .entry)) (q .own) (neighbour s (q .own) code) ≡ true)) ⌝ }
+    ensures { λ r. ⌜ r ≡ deadAlong (labels (now (samples .entry))) (now (state .entry)) (q .own) code (neighbour s (q .own) code) ⌝ }
 {
     if code == 0 {
         return false;

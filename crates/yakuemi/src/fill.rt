@@ -9,8 +9,9 @@ ghost use Rattle.filling.specs.Fill.{fill};
 ghost use Rattle.filling.specs.Demand.{Conforms, OnSkin, rowsRead};
 ghost use Rattle.yakuemi.specs.Measures.{sizes};
 
-// Moves the points that sit too near the skin and writes the rows of a block of nx by ny by nz
-// cubes: N samples, 7N cut bytes, N state bytes and a row table, of any content.
+// Moves the points that sit too near the skin, each to the nearest cut, and writes the rows of a
+// block of nx by ny by nz cubes: N samples, 7N cut bytes, N state bytes and a row table, of any
+// content.
 #[no_mangle]
 pub extern "C" fn yakuemi_fill(
     nx: u32,

@@ -14,7 +14,7 @@ moves bytes code claims = case (bytes-at bytes) 100 (filled 0 1) (codes (code �
 unfoldable pub nearest : List Case
 nearest =
     -- "4 times t squared on long edges and 3 times t squared on short ones": t = 60 on a long edge is 14,400, t = 66 on a short one 13,068.
-    -- The other cut violates point 13 too, so its code would be believed; 128 from it does not
+    -- The other cut violates point 13 too, so its code would be believed; a cut at 128 does not
     moves (91 := 60 ∷ 94 := 66 ∷ []) (13 := 4)
     (place-of 13 (at 578 578 578) ∷ place-with (13 := 1) 13 (at 632 512 512) ∷ place-with (13 := 2) 13 (nowhere 9) ∷ [])
     -- t = 57 on the long edge is 12,996
@@ -34,6 +34,6 @@ nearest =
     ∷ moves (97 := 80 ∷ 192 := 176 ∷ []) (13 := 7) []
     -- three violate, and the two nearer ones tie
     ∷ moves (91 := 50 ∷ 93 := 20 ∷ 71 := 236 ∷ []) (13 := 3) []
-    -- one violates, as in P2 to P8, though a cut on a long edge is nearer: "at most 63", and 64 does not
+    -- one violates, as in P2, P4, P6 and P8, though a cut on a long edge is nearer: "at most 63", and 64 does not
     ∷ moves (91 := 64 ∷ 94 := 105 ∷ []) (13 := 4) (place-of 13 (at 617 617 617) ∷ place-with (13 := 1) 13 (nowhere 9) ∷ [])
     ∷ []

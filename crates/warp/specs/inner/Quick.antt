@@ -1,9 +1,11 @@
--- What the tests of a point compute and say. The quick ones never decide that a point moves, only that nothing has to be searched.
+-- What the tests of a point compute and say. By the bytes alone it is decided that a point stays; that it moves, only with a cut that is live.
 use Prim.Native.Nat.{ℕ, _+_, _*_, _-_, _≤_, _<_}
 use mathlib.Core.Path.{_≡_}
-use mathlib.Core.Bool.{Bool, false}
+use mathlib.Core.Bool.{Bool, false, not}
 use mathlib.Core.List.{List}
 use lib.ListN.{getD}
+use lib.Dec.{eqb}
+use Rattle.basics.specs.Choice.{if_then_else_}
 use Rattle.lattice.specs.declared.Sizes.{Sizes}
 use Rattle.lattice.specs.declared.Near.{Near}
 use Rattle.lattice.specs.declared.Near.the-variants.{At, Nothing}
@@ -20,6 +22,10 @@ use Rattle.moving.specs.Reading.{live}
 unfoldable pub liveAlong : (ℕ → Label) → List ℕ → ℕ → Near → Bool
 liveAlong label codes p Nothing = false
 liveAlong label codes p (At q) = live label codes p q
+
+-- a code is given, and its cut is not live
+unfoldable pub deadAlong : (ℕ → Label) → List ℕ → ℕ → ℕ → Near → Bool
+deadAlong label codes p c n = if eqb c 0 then false else not (liveAlong label codes p n)
 
 -- where the bytes of a point's fourteen edges stand, by code, each if its edge exists
 pub record Offsets (s : Sizes) (q : Site) (at : List ℕ) : Type 0 where

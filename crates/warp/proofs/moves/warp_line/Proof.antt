@@ -122,7 +122,7 @@ loop2-holds c =
     let here = along-sited line (omega arith) (at-along .along .ensures) in
     let guess = guess-at m _ _ _ refl own (at-start .pre .0 .sized) here (at-offsets .offsets .ensures) (at-near .nearest-byte .ensures) in
     ⊎-elim (λ w. search-starts (w .1) (w .2))
-    (λ w. search-whole (w .1 ∙ guess (c .before .is-dead .ensures (w .0 .left))) (w .2)) (c .if1 .came)
+    (λ w. search-whole (w .1 ∙ guess (sym (c .before .is-dead .ensures) ∙ w .0 .left)) (w .2)) (c .if1 .came)
 
 sub-cut-at : tie.Need-sub-cut-at Inv-loop2 μ-loop2 Inv-loop μ-loop
 sub-cut-at c = omega (arith, c .before .before .loop2 .inv .low)
