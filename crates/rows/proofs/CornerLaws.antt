@@ -28,12 +28,6 @@ vertex-rank v1 = refl
 vertex-rank v2 = refl
 vertex-rank v3 = refl
 
-rank-lt : (v : Vertex) → rank v < 4
-rank-lt v0 = omega arith
-rank-lt v1 = omega arith
-rank-lt v2 = omega arith
-rank-lt v3 = omega arith
-
 pub way-lt : (a : Axis) (e : Quarter) (u v : Vertex) → wayBetween a e u v < 7
 unfolding wayBetween directionOf
 way-lt a e u v = go (ltb (rank u) (rank v))
@@ -42,19 +36,7 @@ way-lt a e u v = go (ltb (rank u) (rank v))
     go true = omega arith
     go false = omega arith
 
--- what the code reads from its table is small
-pub entry-small : (t : Tetra) (u v : ℕ) → Tetrahedral t → u < 4 → v < 4 → cutEntry (t .axis) (t .edge) u v < 32
-entry-small t u v k hu hv =
-    let a = axisAt (t .axis) in
-    let e = quarterAt (t .edge) in
-    omega (
-      arith,
-      cut-entry (t .axis) (t .edge) u v (k .axis-in) (k .edge-in) hu hv,
-      rank-lt (startBetween a e (vertexAt u) (vertexAt v)),
-      way-lt a e (vertexAt u) (vertexAt v),
-    )
-
--- .. and it is the cut
+-- what the code reads from its table is the cut
 pub cut-is : (t : Tetra) (u v x : ℕ) → Tetrahedral t → u < 4 → v < 4 → x ≡ numberAt t (cutEntry (t .axis) (t .edge) u v / 8)
     → Edge x (cutEntry (t .axis) (t .edge) u v % 8) ≡ cutAt t u v
 unfolding cutAt

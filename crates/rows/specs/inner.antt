@@ -1,3 +1,4 @@
+pub mod Cuts
 pub mod Corners
 pub mod Picks
 pub mod Stencils
