@@ -65,9 +65,12 @@ unfolding cuts
 returns-12 c =
     let k = c .before .args .kind in
     let r = c .match .rest in
-    let third = past k 2 (past k 1 (past k 0 (zero-le k) (r .0 .0 .0 .0 .0 .0 .0 .0 .0 .0 .1)) (r .0 .0 .0 .0 .0 .0 .0 .0 .0 .1)) (r .0 .0 .0 .0 .0 .0 .0 .0 .1) in
-    let sixth = past k 5 (past k 4 (past k 3 third (r .0 .0 .0 .0 .0 .0 .0 .1)) (r .0 .0 .0 .0 .0 .0 .1)) (r .0 .0 .0 .0 .0 .1) in
-    let ninth = past k 8 (past k 7 (past k 6 sixth (r .0 .0 .0 .0 .1)) (r .0 .0 .0 .1)) (r .0 .0 .1) in
+    let high = r .0 .0 in
+    let middle = high .0 .0 .0 in
+    let low = middle .0 .0 .0 in
+    let third = past k 2 (past k 1 (past k 0 (zero-le k) (low .0 .0 .1)) (low .0 .1)) (low .1) in
+    let sixth = past k 5 (past k 4 (past k 3 third (middle .0 .0 .1)) (middle .0 .1)) (middle .1) in
+    let ninth = past k 8 (past k 7 (past k 6 sixth (high .0 .0 .1)) (high .0 .1)) (high .1) in
     let eleventh = past k 10 (past k 9 ninth (r .0 .1)) (r .1) in
     rw (last k eleventh (c .before .pre)) refl
 
