@@ -166,9 +166,10 @@ row-agrees m asked fits codes reached r member v =
     rw is (entry-agrees m asked fits codes reached t (listed-valid (m .sizes) t listed) (rowAt y w) stand)
 
 -- after filling an accepted block
-pub accepted-agrees : (b : Block) → Accepted b → (r : Row ℕ) → Member r (meshOf (readingOf b)) → (v : Vertex)
-    → answerTo (readingOf b) (stateOf (readingOf b)) (rowAt r v) ≡ standsAt (readingOf b) (stateOf (readingOf b)) (rowAt r v)
-accepted-agrees b h =
-    let m = readingOf b in
+pub accepted-agrees : (band : ℕ) (b : Block) → Accepted band b → (r : Row ℕ) → Member r (meshOf (readingOf band b)) → (v : Vertex)
+    → answerTo (readingOf band b) (stateOf (readingOf band b)) (rowAt r v)
+    ≡ standsAt (readingOf band b) (stateOf (readingOf band b)) (rowAt r v)
+accepted-agrees band b h =
+    let m = readingOf band b in
     let asked : Asked m = record { sized = h .tabled .sized; cuts-long = h .tabled .cuts-long; rule-is = refl } in
-    row-agrees m asked (accepted-fits b h) (stateOf m) (state-reached m)
+    row-agrees m asked (accepted-fits band b h) (stateOf m) (state-reached m)

@@ -70,18 +70,18 @@ module _ (m : Reading) (fits : Fits m) where
         volumes = rows-positive is-sound;
       })
 
-pub accepted-conforms : (b : Block) → Bytes (b .cuts) → Accepted b
-    → Conforms (meshOf (readingOf b)) (placeOf (b .sizes) (b .cuts) (stateOf (readingOf b))) (OnSkin (readingOf b))
-accepted-conforms b bytes h = conforms (readingOf b) (accepted-fits b h) bytes limit-reach
+pub accepted-conforms : (band : ℕ) (b : Block) → Bytes (b .cuts) → Accepted band b
+    → Conforms (meshOf (readingOf band b)) (placeOf (b .sizes) (b .cuts) (stateOf (readingOf band b))) (OnSkin (readingOf band b))
+accepted-conforms band b bytes h = conforms (readingOf band b) (accepted-fits band b h) bytes limit-reach
 
-pub demand-3 : (b : Block) (state rows : List ℕ) → Bytes (b .cuts) → fill b state rows .answer .number ≡ 0
-    → Conforms (meshOf (readingOf b)) (placeOf (b .sizes) (b .cuts) (stateOf (readingOf b))) (OnSkin (readingOf b))
-demand-3 b state rows bytes e = accepted-conforms b bytes (filled-accepted b state rows e)
+pub demand-3 : (band : ℕ) (b : Block) (state rows : List ℕ) → Bytes (b .cuts) → fill band b state rows .answer .number ≡ 0
+    → Conforms (meshOf (readingOf band b)) (placeOf (b .sizes) (b .cuts) (stateOf (readingOf band b))) (OnSkin (readingOf band b))
+demand-3 band b state rows bytes e = accepted-conforms band b bytes (filled-accepted band b state rows e)
 
 -- the same of the rows as filling leaves them in the row table, T of them, with the points placed by the state table that it leaves
-pub demand-3-written : (b : Block) (state rows : List ℕ) → Bytes (b .cuts) → fill b state rows .answer .number ≡ 0
-    → Conforms (rowsRead (fill b state rows .rows) (fill b state rows .answer .rows))
-    (placeOf (b .sizes) (b .cuts) (fill b state rows .state)) (OnSkin (readingOf b))
-demand-3-written b state rows bytes e =
-    let p = passed-all b state rows 0 (inl refl) e in
-    rw (rows-read b state rows e, state-written b state rows (p .accepted) (p .state-long)) (demand-3 b state rows bytes e)
+pub demand-3-written : (band : ℕ) (b : Block) (state rows : List ℕ) → Bytes (b .cuts) → fill band b state rows .answer .number ≡ 0
+    → Conforms (rowsRead (fill band b state rows .rows) (fill band b state rows .answer .rows))
+    (placeOf (b .sizes) (b .cuts) (fill band b state rows .state)) (OnSkin (readingOf band b))
+demand-3-written band b state rows bytes e =
+    let p = passed-all band b state rows 0 (inl refl) e in
+    rw (rows-read band b state rows e, state-written band b state rows (p .accepted) (p .state-long)) (demand-3 band b state rows bytes e)

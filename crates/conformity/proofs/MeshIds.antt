@@ -17,11 +17,12 @@ use Rattle.conformity.proofs.Bridge.{limit-reach, finalLabel, sound}
 use Rattle.conformity.proofs.Rows.{mesh-is}
 
 -- a point that is not minus, or the cut of an edge between a plus and a minus point
-pub mesh-ids : (b : Block) → Bytes (b .cuts) → Accepted b → (i : ℕ) → i < length (meshOf (readingOf b)) → (v : Vertex)
-    → RowId (b .sizes) (finalLabel (readingOf b) (stateOf (readingOf b))) (rowAt (nthRow (meshOf (readingOf b)) i) v)
-mesh-ids b bytes h =
-    let m = readingOf b in
+pub mesh-ids : (band : ℕ) (b : Block) → Bytes (b .cuts) → Accepted band b
+    → (i : ℕ) → i < length (meshOf (readingOf band b)) → (v : Vertex)
+    → RowId (b .sizes) (finalLabel (readingOf band b) (stateOf (readingOf band b))) (rowAt (nthRow (meshOf (readingOf band b)) i) v)
+mesh-ids band b bytes h =
+    let m = readingOf band b in
     let label = finalLabel m (stateOf m) in
-    let is-sound = sound (stateOf m) (accepted-fits b h) bytes limit-reach (state-reached m) in
+    let is-sound = sound (stateOf m) (accepted-fits band b h) bytes limit-reach (state-reached m) in
     subst (λ (rows : List (Row ℕ)). (i : ℕ) → i < length rows → (v : Vertex) → RowId (b .sizes) label (rowAt (nthRow rows i) v))
     (sym (mesh-is is-sound)) (row-ids (b .sizes) label)

@@ -32,8 +32,9 @@ module _ (m : Reading) (fits : Fits m) (bytes : Bytes (m .cuts)) (small : (c : �
       let labels : finalLabel m s ≡ finalLabel m t = λ i p. same-label m h p i in
       by-labels r ∙ ap (signedRows (m .sizes)) labels ∙ sym (by-labels u)
 
-pub rows-as-before : (b : Block) → Bytes (b .cuts) → Accepted b
-    → table (rowsWith (readingOf b) (stateBefore (readingOf b))) ≡ table (rowsWith (readingOf b) (stateOf (readingOf b)))
-rows-as-before b bytes h =
-    let m = readingOf b in
-    ap table (same-rows m (accepted-fits b h) bytes limit-reach (before-reached m) (state-reached m) (same-points m))
+pub rows-as-before : (band : ℕ) (b : Block) → Bytes (b .cuts) → Accepted band b
+    → table (rowsWith (readingOf band b) (stateBefore (readingOf band b)))
+    ≡ table (rowsWith (readingOf band b) (stateOf (readingOf band b)))
+rows-as-before band b bytes h =
+    let m = readingOf band b in
+    ap table (same-rows m (accepted-fits band b h) bytes limit-reach (before-reached m) (state-reached m) (same-points m))

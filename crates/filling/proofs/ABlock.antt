@@ -19,8 +19,9 @@ cubes n = record { nx = n; ny = n; nz = n }
 abbrev plus : ℕ → ℕ → List ℤ
 plus n p = set (replicate n (negℤ (pos 5))) p (pos 5)
 
--- a call of filling: the block, the lengths of the lent tables, and what comes out
+-- a call of filling: the band, the block, the lengths of the lent tables, and what comes out
 pub record Call : Type 0 where
+  pub band : ℕ
   pub block : Block
   pub state : ℕ
   pub rows : ℕ
@@ -33,13 +34,25 @@ abbrev answer : ℕ → ℕ → ℕ → ℕ → Filled
 answer n t m p = record { number = n; rows = t; moved = m; place = p }
 
 -- a call that leaves both tables as lent, and one that fills the state table alone
-abbrev refuses : Block → ℕ → ℕ → ℕ → Call
-refuses b n number at =
-    record { block = b; state = n; rows = 3; outcome = record { answer = answer number 0 0 at; state = lent n; rows = lent 3 } }
+abbrev refuses : ℕ → Block → ℕ → ℕ → ℕ → Call
+refuses band b n number at =
+    record {
+      band = band;
+      block = b;
+      state = n;
+      rows = 3;
+      outcome = record { answer = answer number 0 0 at; state = lent n; rows = lent 3 };
+    }
 
-abbrev fills : Block → ℕ → ℕ → Filled → List Entry → Call
-fills b n rows a codes =
-    record { block = b; state = n; rows = rows; outcome = record { answer = a; state = tableOf n codes; rows = lent rows } }
+abbrev fills : ℕ → Block → ℕ → ℕ → Filled → List Entry → Call
+fills band b n rows a codes =
+    record {
+      band = band;
+      block = b;
+      state = n;
+      rows = rows;
+      outcome = record { answer = a; state = tableOf n codes; rows = lent rows };
+    }
 
 -- the cuts of the eight cubes about their middle point 13, with one byte of them at a value
 abbrev middle : Entry → List ℕ
@@ -48,20 +61,32 @@ middle e =
 
 unfoldable pub calls : List Call
 calls =
-    refuses (blockOf (cubes 0) [] []) 0 1 0
-    ∷ refuses (blockOf (cubes 1) (replicate 8 (pos 5)) []) 0 2 0
-    ∷ refuses (blockOf (cubes 1) (plus 9 3) (replicate 62 9)) 0 3 0
-    ∷ refuses (blockOf (cubes 1) (plus 9 3) (replicate 63 9)) 8 4 0
+    -- F-3: "14 "band", the band is above 32767, directly after 1"
+    refuses 32768 (blockOf (cubes 0) [] []) 0 1 0
+    ∷ refuses 32768 (blockOf (cubes 1) [] []) 0 14 0
+    ∷ refuses 32767 (blockOf (cubes 1) (replicate 8 (pos 5)) []) 0 2 0
+    ∷ refuses 0 (blockOf (cubes 1) (plus 9 3) (replicate 62 9)) 0 3 0
+    ∷ refuses 0 (blockOf (cubes 1) (plus 9 3) (replicate 63 9)) 8 4 0
     -- a rim point above zero, before any gap or stray byte; then the lowest of these
-    ∷ refuses (blockOf (cubes 1) (plus 9 3) (replicate 63 9)) 9 5 3
-    ∷ refuses (blockOf (cubes 2) (plus 35 13) (middle (71 := 0))) 35 6 71
-    ∷ refuses (blockOf (cubes 1) (replicate 9 (negℤ (pos 5))) (tableOf 63 (40 := 9 ∷ []))) 9 7 40
+    ∷ refuses 0 (blockOf (cubes 1) (plus 9 3) (replicate 63 9)) 9 5 3
+    ∷ refuses 0 (blockOf (cubes 2) (plus 35 13) (middle (71 := 0))) 35 6 71
+    ∷ refuses 0 (blockOf (cubes 1) (replicate 9 (negℤ (pos 5))) (tableOf 63 (40 := 9 ∷ []))) 9 7 40
+    -- F-3: "The rim and cut-byte tests go on reading raw samples"
+    ∷ refuses 9 (blockOf (cubes 1) (plus 9 3) (replicate 63 9)) 9 5 3
+    ∷ refuses 9 (blockOf (cubes 2) (plus 35 13) (middle (71 := 0))) 35 6 71
+    ∷ refuses 9 (blockOf (cubes 2) (plus 35 13) (middle (0 := 9))) 35 7 0
     -- no row, and room for none
-    ∷ fills (blockOf (cubes 1) (replicate 9 (negℤ (pos 5))) (replicate 63 0)) 9 0 (answer 0 0 0 0) []
+    ∷ fills 0 (blockOf (cubes 1) (replicate 9 (negℤ (pos 5))) (replicate 63 0)) 9 0 (answer 0 0 0 0) []
     -- 24 rows, and no room for the last: "the state table is filled, the row table is untouched"
-    ∷ fills (blockOf (cubes 2) (plus 35 13) (middle (91 := 193))) 35 95 (answer 10 24 1 0) (14 := 8 ∷ [])
+    ∷ fills 0 (blockOf (cubes 2) (plus 35 13) (middle (91 := 193))) 35 95 (answer 10 24 1 0) (14 := 8 ∷ [])
+    -- F-3: the middle point is below the band, and in it: no row is left
+    ∷ fills 4 (blockOf (cubes 2) (plus 35 13) (middle (91 := 128))) 35 95 (answer 10 24 0 0) []
+    ∷ fills 5 (blockOf (cubes 2) (plus 35 13) (middle (91 := 128))) 35 95 (answer 0 0 0 0) []
+    -- "a cut byte beside a zero label is simply not live": point 14 is in the band, and the cut towards it does not move the middle point
+    ∷ fills 2 (blockOf (cubes 2) (set (plus 35 13) 14 (negℤ (pos 3))) (middle (91 := 63))) 35 3 (answer 0 0 1 0) (13 := 1 ∷ [])
+    ∷ fills 3 (blockOf (cubes 2) (set (plus 35 13) 14 (negℤ (pos 3))) (middle (91 := 63))) 35 3 (answer 10 24 0 0) []
     ∷ []
 
-pub fills-so : map (λ c. fill (c .block) (lent (c .state)) (lent (c .rows))) calls ≡ map (λ c. c .outcome) calls
+pub fills-so : map (λ c. fill (c .band) (c .block) (lent (c .state)) (lent (c .rows))) calls ≡ map (λ c. c .outcome) calls
 unfolding definitions calls
 fills-so = refl

@@ -13,10 +13,11 @@ use Rattle.basics.proofs.Test.{eqb-of, lt-or}
 use Rattle.basics.proofs.Search.{lowest-passes, lowest-none, none-lowest}
 use Rattle.lattice.specs.Counts.{sizesFit, points}
 use Rattle.lattice.proofs.Sized.{fits-sized, sized-fits}
+use Rattle.moving.proofs.Band.{fits-banded, banded-fits}
 use Rattle.lattice.specs.declared.Sizes.{Sizes}
 use Rattle.moving.specs.declared.Label.{Label}
-use Rattle.moving.specs.Label.{labels}
-use Rattle.moving.specs.Block.{Block}
+use Rattle.moving.specs.Label.{signs, bandFits}
+use Rattle.moving.specs.Block.{Block, readingOf}
 use Rattle.filling.specs.Check.{rimFault, crosses, cutFault, firstRim, firstCut, Accepted}
 use Rattle.filling.specs.Fill.{Outcome, refused, written, fill}
 
@@ -31,52 +32,54 @@ fault-le s label cuts o = go (crosses s label (o / 7) (o % 7)) (eqb (getD cuts o
     go false true = omega arith
     go false false = omega arith
 
--- a block's labels, and its first faults
-abbrev pub labelIn : Block → ℕ → Label
-labelIn b = labels (b .samples)
+-- the signs of a block's samples, and its first faults
+abbrev pub signIn : Block → ℕ → Label
+signIn b = signs (b .samples)
 
 abbrev pub faultIn : Block → ℕ → ℕ
-faultIn b = cutFault (b .sizes) (labelIn b) (b .cuts)
+faultIn b = cutFault (b .sizes) (signIn b) (b .cuts)
 
 abbrev pub rimOf : Block → ℕ
-rimOf b = firstRim (b .sizes) (labelIn b)
+rimOf b = firstRim (b .sizes) (signIn b)
 
 abbrev pub cutOf : Block → ℕ
-cutOf b = firstCut (b .sizes) (labelIn b) (b .cuts)
+cutOf b = firstCut (b .sizes) (signIn b) (b .cuts)
 
 faulty : Block → ℕ → Bool
 faulty b o = not (eqb (faultIn b o) 0)
 
-module _ (b : Block) (state rows : List ℕ) where
+module _ (band : ℕ) (b : Block) (state rows : List ℕ) where
   abbrev n : ℕ
   n = points (b .sizes)
 
   -- an answer that is not this refusal's number comes from what is tested after it
   passed : (t : Bool) (n at : ℕ) (more : Outcome) (m : ℕ) → (t ≡ true → n ≡ m → ⊥)
-      → (if t then refused b state rows n at else more) .answer .number ≡ m
-      → (t ≡ false) × ((if t then refused b state rows n at else more) ≡ more) × (more .answer .number ≡ m)
+      → (if t then refused state rows n at else more) .answer .number ≡ m
+      → (t ≡ false) × ((if t then refused state rows n at else more) ≡ more) × (more .answer .number ≡ m)
   passed true n at more m h e = absurd (h refl e)
   passed false n at more m h e = (refl, refl, e)
 
   -- the block is accepted, the state table is long enough, and what filling gives is what it writes
   pub record Passed : Type 0 where
-    pub accepted : Accepted b
+    pub accepted : Accepted band b
     pub state-long : length state ≡ points (b .sizes)
-    pub is : fill b state rows ≡ written b state rows
+    pub is : fill band b state rows ≡ written state rows (readingOf band b)
 
-  pub passed-all : (m : ℕ) → (m ≡ 0) ⊎ (m ≡ 10) → fill b state rows .answer .number ≡ m → Passed
+  pub passed-all : (m : ℕ) → (m ≡ 0) ⊎ (m ≡ 10) → fill band b state rows .answer .number ≡ m → Passed
   unfolding fill faulty
   passed-all m k e =
       let s1 = passed (not (sizesFit (b .sizes))) 1 0 _ m (λ t. not-early 1 (omega arith) (omega arith)) e in
-      let s2 = passed (not (eqb (length (b .samples)) n)) 2 0 _ m (λ t. not-early 2 (omega arith) (omega arith)) (s1 .2) in
+      let s14 = passed (not (bandFits band)) 14 0 _ m (λ t. not-banded) (s1 .2) in
+      let s2 = passed (not (eqb (length (b .samples)) n)) 2 0 _ m (λ t. not-early 2 (omega arith) (omega arith)) (s14 .2) in
       let s3 = passed (not (eqb (length (b .cuts)) (7 * n))) 3 0 _ m (λ t. not-early 3 (omega arith) (omega arith)) (s2 .2) in
       let s4 = passed (not (eqb (length state) n)) 4 0 _ m (λ t. not-early 4 (omega arith) (omega arith)) (s3 .2) in
       let s5 = passed (ltb (rimOf b) n) 5 (rimOf b) _ m (λ t. not-early 5 (omega arith) (omega arith)) (s4 .2) in
       let s6 = passed (ltb (cutOf b) (7 * n)) (faultIn b (cutOf b)) (cutOf b) _ m not-cut (s5 .2) in
-      let no-rim = lowest-none (rimFault (b .sizes) (labelIn b)) n (ltb-false _ _ (s5 .0)) in
+      let no-rim = lowest-none (rimFault (b .sizes) (signIn b)) n (ltb-false _ _ (s5 .0)) in
       let no-cut = lowest-none (faulty b) (7 * n) (ltb-false _ _ (s6 .0)) in
       record {
         accepted = record {
+          banded = fits-banded band (not-false _ (s14 .0));
           tabled = record {
             sized = fits-sized (b .sizes) (not-false _ (s1 .0));
             samples-long = eqb-true _ _ (not-false _ (s2 .0));
@@ -86,11 +89,14 @@ module _ (b : Block) (state rows : List ℕ) where
           cuts-fine = λ o h. eqb-true _ _ (not-false _ (no-cut o h));
         };
         state-long = eqb-true _ _ (not-false _ (s4 .0));
-        is = s1 .1 ∙ s2 .1 ∙ s3 .1 ∙ s4 .1 ∙ s5 .1 ∙ s6 .1;
+        is = s1 .1 ∙ s14 .1 ∙ s2 .1 ∙ s3 .1 ∙ s4 .1 ∙ s5 .1 ∙ s6 .1;
       }
     where
       not-early : (n : ℕ) → 0 < n → n < 10 → n ≡ m → ⊥
       not-early n l u f = elim k [ inl z ↦ omega arith | inr z ↦ omega arith ]
+
+      not-banded : 14 ≡ m → ⊥
+      not-banded f = elim k [ inl z ↦ omega arith | inr z ↦ omega arith ]
 
       some : (n : ℕ) → T (not (eqb n 0)) → 0 < n
       some n t = elim (lt-or 0 n) [ inl l ↦ l | inr l ↦ absurd (T-not (eqb n 0) t (eqb-of n 0 (omega arith))) ]
@@ -98,19 +104,20 @@ module _ (b : Block) (state rows : List ℕ) where
       not-cut : ltb (cutOf b) (7 * n) ≡ true → faultIn b (cutOf b) ≡ m → ⊥
       not-cut t f =
           let fault = faultIn b (cutOf b) in
-          let small = fault-le (b .sizes) (labelIn b) (b .cuts) (cutOf b) in
+          let small = fault-le (b .sizes) (signIn b) (b .cuts) (cutOf b) in
           not-early fault (some fault (lowest-passes (faulty b) (7 * n) (ltb-true _ _ t))) (omega (arith, small)) f
 
   -- and the other way round: a block that passes is filled
-  pub accepted-fills : Accepted b → length state ≡ points (b .sizes) → fill b state rows ≡ written b state rows
+  pub accepted-fills : Accepted band b → length state ≡ points (b .sizes) → fill band b state rows ≡ written state rows (readingOf band b)
   unfolding fill faulty
   accepted-fills h l =
       simp (
         sized-fits (b .sizes) (h .tabled .sized),
+        banded-fits band (h .banded),
         eq-eqb _ _ (h .tabled .samples-long),
         eq-eqb _ _ (h .tabled .cuts-long),
         eq-eqb _ _ l,
-        le-ltb (rimOf b) n (omega (arith, none-lowest (rimFault (b .sizes) (labelIn b)) n (h .rim-fine))),
+        le-ltb (rimOf b) n (omega (arith, none-lowest (rimFault (b .sizes) (signIn b)) n (h .rim-fine))),
         le-ltb (cutOf b) (7 * n) (omega (arith, none-lowest (faulty b) (7 * n) fine)),
       )
     where
@@ -118,8 +125,8 @@ module _ (b : Block) (state rows : List ℕ) where
       fine o u = rw (h .cuts-fine o u) refl
 
 -- an answer 0 or 10 says that the block is accepted
-pub filled-accepted : (b : Block) (state rows : List ℕ) → fill b state rows .answer .number ≡ 0 → Accepted b
-filled-accepted b state rows e = passed-all b state rows 0 (inl refl) e .accepted
+pub filled-accepted : (band : ℕ) (b : Block) (state rows : List ℕ) → fill band b state rows .answer .number ≡ 0 → Accepted band b
+filled-accepted band b state rows e = passed-all band b state rows 0 (inl refl) e .accepted
 
-pub short-accepted : (b : Block) (state rows : List ℕ) → fill b state rows .answer .number ≡ 10 → Accepted b
-short-accepted b state rows e = passed-all b state rows 10 (inr refl) e .accepted
+pub short-accepted : (band : ℕ) (b : Block) (state rows : List ℕ) → fill band b state rows .answer .number ≡ 10 → Accepted band b
+short-accepted band b state rows e = passed-all band b state rows 10 (inr refl) e .accepted

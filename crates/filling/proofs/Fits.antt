@@ -14,9 +14,10 @@ use Rattle.lattice.specs.Direction.{asStart}
 use Rattle.lattice.specs.Edge.{neighbour, byteAt}
 use Rattle.lattice.specs.Rim.{rim}
 use Rattle.moving.specs.declared.Label.{Label}
-use Rattle.moving.specs.Label.{labels, isPlus, opposed}
+use Rattle.moving.specs.Label.{signs, labels, isPlus, opposed}
 use Rattle.moving.specs.Reading.{Reading}
 use Rattle.moving.specs.Block.{Block, readingOf}
+use Rattle.moving.proofs.Band.{plus-sign, opposed-signs}
 use Rattle.filling.specs.Check.{rimFault, crossesTo, crosses, cutFault, Accepted}
 
 -- no rim point is plus; an edge between a plus and a minus point has a byte
@@ -25,19 +26,21 @@ pub record Fits (m : Reading) : Type 0 where
   pub cut : (p d q : ℕ) → p < points (m .sizes) → d < 7 → neighbour (m .sizes) p (asStart d) ≡ At q
       → T (opposed (m .label p) (m .label q)) → 0 < getD (m .cuts) (byteAt p d) 0
 
-pub accepted-fits : (b : Block) → Accepted b → Fits (readingOf b)
-unfolding rimFault cutFault crossesTo
-accepted-fits b h =
+-- what is plus by a band is above zero, and what is opposed by it is opposed: so the tests of raw samples are enough
+pub accepted-fits : (band : ℕ) (b : Block) → Accepted band b → Fits (readingOf band b)
+unfolding rimFault cutFault crossesTo signs labels
+accepted-fits band b h =
     record {
-      no-plus = λ p l t u. false-F (rimFault (b .sizes) label p) (h .rim-fine p l) (&&-i (rim (b .sizes) p) (isPlus (label p)) t u);
-      cut = some-byte;
+      no-plus = λ p l t u.
+          false-F (rimFault (b .sizes) raw p) (h .rim-fine p l) (&&-i (rim (b .sizes) p) (isPlus (raw p)) t (plus-sign band _ u));
+      cut = λ p d q l u to t. some-byte p d q l u to (opposed-signs band _ _ t);
     }
   where
-    label : ℕ → Label
-    label = labels (b .samples)
+    raw : ℕ → Label
+    raw = signs (b .samples)
 
     some-byte : (p d q : ℕ) → p < points (b .sizes) → d < 7 → neighbour (b .sizes) p (asStart d) ≡ At q
-        → T (opposed (label p) (label q)) → 0 < getD (b .cuts) (byteAt p d) 0
+        → T (opposed (raw p) (raw q)) → 0 < getD (b .cuts) (byteAt p d) 0
     some-byte p d q l u to t =
         elim (lt-or 0 (getD (b .cuts) (byteAt p d) 0)) [
           | inl m ↦ m
@@ -50,5 +53,5 @@ accepted-fits b h =
         way : byteAt p d % 7 ≡ d
         way = omega arith
 
-        gap : getD (b .cuts) (byteAt p d) 0 ≡ 0 → cutFault (b .sizes) label (b .cuts) (byteAt p d) ≡ 6
-        gap z = rw (start, way, to, T-true (opposed (label p) (label q)) t, eq-eqb _ _ z) refl
+        gap : getD (b .cuts) (byteAt p d) 0 ≡ 0 → cutFault (b .sizes) raw (b .cuts) (byteAt p d) ≡ 6
+        gap z = rw (start, way, to, T-true (opposed (raw p) (raw q)) t, eq-eqb _ _ z) refl

@@ -7,3 +7,4 @@ pub mod Fits
 pub mod Written
 pub mod InBlock
 pub mod Before
+pub mod BandZero

@@ -43,43 +43,43 @@ table-row (row a b c d ∷ rows) more (suc i) h = later ∙ table-row rows more 
     later : rowRead (a ∷ b ∷ c ∷ d ∷ (table rows ++ more)) (suc i) ≡ rowRead (table rows ++ more) i
     later = rw (on 1, on 2, on 3, first) refl
 
-module _ (b : Block) (state rows : List ℕ) where
-  module _ (h : Accepted b) (l : length state ≡ points (b .sizes)) where
+module _ (band : ℕ) (b : Block) (state rows : List ℕ) where
+  module _ (h : Accepted band b) (l : length state ≡ points (b .sizes)) where
     -- "T, the rows written"
-    pub rows-counted : fill b state rows .answer .rows ≡ length (meshOf (readingOf b))
+    pub rows-counted : fill band b state rows .answer .rows ≡ length (meshOf (readingOf band b))
     unfolding written
-    rows-counted = rw (accepted-fills b state rows h l) refl
+    rows-counted = rw (accepted-fills band b state rows h l) refl
 
     -- "M, the non-zero state bytes"
-    pub moved-counted : fill b state rows .answer .moved ≡ count (λ p. not (eqb (getD (stateOf (readingOf b)) p 0) 0)) (points (b .sizes))
+    pub moved-counted : fill band b state rows .answer .moved ≡ count (λ p. not (eqb (getD (stateOf (readingOf band b)) p 0) 0)) (points (b .sizes))
     unfolding written movedCount
     moved-counted =
-        let m = readingOf b in
+        let m = readingOf band b in
         let bytes = reached-nonzero m (state-reached m) in
-        rw (accepted-fills b state rows h l, stateAt-long m (points (b .sizes))) (λ t. count (λ p. bytes p t) (points (b .sizes)))
+        rw (accepted-fills band b state rows h l, stateAt-long m (points (b .sizes))) (λ t. count (λ p. bytes p t) (points (b .sizes)))
 
-    pub state-written : fill b state rows .state ≡ stateOf (readingOf b)
+    pub state-written : fill band b state rows .state ≡ stateOf (readingOf band b)
     unfolding written
-    state-written = rw (accepted-fills b state rows h l) refl
+    state-written = rw (accepted-fills band b state rows h l) refl
 
     -- "10: row table holds fewer than 4T numbers"
-    pub number-0 : 4 * length (meshOf (readingOf b)) ≤ length rows → fill b state rows .answer .number ≡ 0
+    pub number-0 : 4 * length (meshOf (readingOf band b)) ≤ length rows → fill band b state rows .answer .number ≡ 0
     unfolding written
-    number-0 f = rw (accepted-fills b state rows h l, le-leb _ _ f) refl
+    number-0 f = rw (accepted-fills band b state rows h l, le-leb _ _ f) refl
 
-    pub number-10 : length rows < 4 * length (meshOf (readingOf b)) → fill b state rows .answer .number ≡ 10
+    pub number-10 : length rows < 4 * length (meshOf (readingOf band b)) → fill band b state rows .answer .number ≡ 10
     unfolding written
-    number-10 f = rw (accepted-fills b state rows h l, lt-leb _ _ f) refl
+    number-10 f = rw (accepted-fills band b state rows h l, lt-leb _ _ f) refl
 
   abbrev pub mesh : List (Row ℕ)
-  mesh = meshOf (readingOf b)
+  mesh = meshOf (readingOf band b)
 
   -- the row table of a filling: the rows, and "entries beyond 4T stay untouched"
-  pub rows-written : fill b state rows .answer .number ≡ 0
-      → fill b state rows .rows ≡ table mesh ++ drop (4 * length mesh) rows
+  pub rows-written : fill band b state rows .answer .number ≡ 0
+      → fill band b state rows .rows ≡ table mesh ++ drop (4 * length mesh) rows
   unfolding written overwritten
   rows-written e =
-      let p = passed-all b state rows 0 (inl refl) e in
+      let p = passed-all band b state rows 0 (inl refl) e in
       rw (p .is) (go (leb (4 * length mesh) (length rows)) (rw (p .is) at e))
     where
       go : (t : Bool) → _≡_ {A = ℕ} (if t then 0 else 10) 0
@@ -88,10 +88,10 @@ module _ (b : Block) (state rows : List ℕ) where
       go false e = absurd (omega (arith, e))
 
   -- "After 10 .. the row table is untouched"
-  pub rows-kept : fill b state rows .answer .number ≡ 10 → fill b state rows .rows ≡ rows
+  pub rows-kept : fill band b state rows .answer .number ≡ 10 → fill band b state rows .rows ≡ rows
   unfolding written overwritten
   rows-kept e =
-      let p = passed-all b state rows 10 (inr refl) e in
+      let p = passed-all band b state rows 10 (inr refl) e in
       rw (p .is) (go (leb (4 * length mesh) (length rows)) (rw (p .is) at e))
     where
       go : (t : Bool) → _≡_ {A = ℕ} (if t then 0 else 10) 10
@@ -99,14 +99,14 @@ module _ (b : Block) (state rows : List ℕ) where
       go true e = absurd (omega (arith, e))
       go false e = refl
 
-  pub row-written : fill b state rows .answer .number ≡ 0
-      → (i : ℕ) → i < length mesh → rowRead (fill b state rows .rows) i ≡ nthRow mesh i
+  pub row-written : fill band b state rows .answer .number ≡ 0
+      → (i : ℕ) → i < length mesh → rowRead (fill band b state rows .rows) i ≡ nthRow mesh i
   row-written e i h = rw (rows-written e) (table-row mesh (drop (4 * length mesh) rows) i h)
 
   -- so the rows, read from the tables that filling leaves, are those of the definition
-  pub rows-read : fill b state rows .answer .number ≡ 0 → rowsRead (fill b state rows .rows) (fill b state rows .answer .rows) ≡ mesh
+  pub rows-read : fill band b state rows .answer .number ≡ 0 → rowsRead (fill band b state rows .rows) (fill band b state rows .answer .rows) ≡ mesh
   unfolding rowsRead
   rows-read e =
-      let p = passed-all b state rows 0 (inl refl) e in
-      read-all (rowRead (fill b state rows .rows)) mesh (fill b state rows .answer .rows) (row 0 0 0 0)
+      let p = passed-all band b state rows 0 (inl refl) e in
+      read-all (rowRead (fill band b state rows .rows)) mesh (fill band b state rows .answer .rows) (row 0 0 0 0)
       (sym (rows-counted (p .accepted) (p .state-long))) (row-written e)

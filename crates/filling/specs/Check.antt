@@ -1,8 +1,8 @@
 -- Document 01, "The block" and "Calls and refusals": what a block must be like to be filled.
 --     rimFault, firstRim         refusal 5
 --     crosses, cutFault, firstCut   refusals 6 and 7
---     Accepted                   a block that passes
-use Prim.Native.Nat.{ℕ, _*_, _/_, _%_, _<_}
+--     Accepted                   a block and a band that pass
+use Prim.Native.Nat.{ℕ, _*_, _/_, _%_, _≤_, _<_}
 use mathlib.Core.Path.{_≡_}
 use mathlib.Core.Bool.{Bool, false, not, _&&_}
 use mathlib.Core.List.{List}
@@ -18,7 +18,7 @@ use Rattle.lattice.specs.Direction.{asStart}
 use Rattle.lattice.specs.Edge.{neighbour}
 use Rattle.lattice.specs.Rim.{rim}
 use Rattle.moving.specs.declared.Label.{Label}
-use Rattle.moving.specs.Label.{labels, isPlus, opposed}
+use Rattle.moving.specs.Label.{signs, bandMost, isPlus, opposed}
 use Rattle.moving.specs.Block.{Block, Tabled}
 
 module _ (s : Sizes) (label : ℕ → Label) where
@@ -50,8 +50,9 @@ module _ (s : Sizes) (label : ℕ → Label) where
     abbrev pub firstCut : ℕ
     firstCut = lowest (λ o. not (eqb (cutFault o) 0)) (7 * points s)
 
--- a block that filling accepts
-pub record Accepted (b : Block) : Type 0 where
+-- a block that filling accepts with a band; F-3: "The rim and cut-byte tests go on reading raw samples"
+pub record Accepted (band : ℕ) (b : Block) : Type 0 where
+  pub banded : band ≤ bandMost
   pub tabled : Tabled b
-  pub rim-fine : (p : ℕ) → p < points (b .sizes) → rimFault (b .sizes) (labels (b .samples)) p ≡ false
-  pub cuts-fine : (o : ℕ) → o < 7 * points (b .sizes) → cutFault (b .sizes) (labels (b .samples)) (b .cuts) o ≡ 0
+  pub rim-fine : (p : ℕ) → p < points (b .sizes) → rimFault (b .sizes) (signs (b .samples)) p ≡ false
+  pub cuts-fine : (o : ℕ) → o < 7 * points (b .sizes) → cutFault (b .sizes) (signs (b .samples)) (b .cuts) o ≡ 0

@@ -51,7 +51,7 @@ pub record Conforms (rows : List (Row ℕ)) (place : ℕ → Place) (Skin : ℕ 
   pub volumes : (i : ℕ) → i < length rows → pos 0 <ℤ rowVolume place (nthRow rows i)
 
 -- the skin (document 01's word for the isosurface): a cut point, a point that the rules move, or a point whose label is zero from the
--- start, that is, whose sample is zero
+-- start, that is, whose sample's size is at most the band. F-3: "The face rule now counts an in-band point as lying on the skin"
 pub data OnSkin (m : Reading) (id : ℕ) : Type 0 where
   -- "A cut point is the cut of an edge": the edge from p in direction d exists, its byte is not zero, and this is its id
   a-cut : (p d q : ℕ) → p < points (m .sizes) → d < 7 → neighbour (m .sizes) p (asStart d) ≡ At q

@@ -14,7 +14,7 @@ use Rattle.lattice.specs.Counts.{cells, points}
 use Rattle.lattice.specs.Point.{linear, cell, kindOf}
 use Rattle.lattice.specs.Direction.{directions, direction, long, isStart, directionOf, step}
 use Rattle.lattice.specs.Edge.{staysIn, farKind, farIndex, near, edgeByte}
-use Rattle.moving.specs.Label.{labelOf, labels, isZero}
+use Rattle.moving.specs.Label.{signOf, labelOf, labels, isZero}
 use Rattle.moving.specs.Violation.{limit, measured, squared, violation}
 use Rattle.moving.specs.Nearest.{nearer, nearestTo}
 use Rattle.moving.specs.Reading.{isMove, labelAfter, live, violationAlong}
@@ -52,9 +52,9 @@ theCases =
     ∷ case 8 (3 := 200 ∷ 11 := 100 ∷ []) (1 := 5 ∷ 8 := 11 ∷ [])
     ∷ []
 
-pub one-cube : map (λ c. stateOf (readingOf (block c))) theCases ≡ map (λ c. tableOf 9 (c .moves)) theCases
+pub one-cube : map (λ c. stateOf (readingOf 0 (block c))) theCases ≡ map (λ c. tableOf 9 (c .moves)) theCases
 unfolding
     theCases block tableOf stateAt outset moveBy turn moveTo from choice nearestTo nearer violationAlong
-    labels live labelAfter labelOf isZero violation limit measured squared
+    signOf labelOf labels live labelAfter isZero violation limit measured squared
     cells points linear cell kindOf directions direction long isStart directionOf step staysIn farKind farIndex near edgeByte
 one-cube = refl

@@ -1,3 +1,4 @@
+pub mod ABand
 pub mod AChoice
 pub mod ACube
 pub mod Limits
@@ -12,4 +13,5 @@ pub mod Choice
 pub mod First
 pub mod SamePoints
 pub mod Moved
+pub mod Band
 pub mod Theorems

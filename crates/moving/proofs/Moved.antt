@@ -3,29 +3,26 @@
 --     outset-long, outset-at       the table at the outset
 --     stateAt-suc, stateAt-ahead   one turn more; points ahead are as at the outset
 --     state-settled                the state table is settled: above all, reached from the outset
---     reached-byte, reached-move, reached-nonzero, reached-zero    what its bytes say
+--     reached-byte, reached-move, reached-nonzero, reached-zero, reached-rests    what its bytes say
 use Prim.Native.Nat.{ℕ, suc, _≤_}
 use native.Mathlib.Omega.{arith}
-use mathlib.Core.Path.{_≡_, refl, ap, sym, _∙_}
+use mathlib.Core.Path.{_≡_, refl, sym, subst, _∙_}
 use mathlib.Core.Logic.{_⊎_, inl, inr}
-use mathlib.Core.Bool.{Bool, true, false}
 use mathlib.Core.List.{List}
-use lib.IntN.{ℤ, pos, negsuc}
-use lib.Dec.{T, eqb}
+use lib.Dec.{T}
 use lib.ListN.{length, getD, length-replicate, getD-replicate, List·getD-eq-default}
-use borrow.Author.Tests.{eqb-true, eq-eqb}
-use Rattle.basics.specs.Choice.{if_then_else_}
+use borrow.Author.Tests.{eq-eqb}
 use Rattle.basics.specs.Lists.{below}
 use Rattle.basics.proofs.Test.{false-F, true-T, lt-or}
 use Rattle.basics.proofs.Gather.{below-lt, below-i}
 use Rattle.lattice.specs.Counts.{points}
-use Rattle.moving.specs.declared.Label.the-variants.{Zero, Plus}
-use Rattle.moving.specs.Label.{labelOf}
+use Rattle.moving.specs.declared.Label.the-variants.{Zero}
 use Rattle.moving.specs.Reading.{Reading, isMove, saysZero, labelAfter}
 use Rattle.moving.specs.Order.{turn}
 use Rattle.moving.specs.Moving.{choice, outset, stateAt, stateOf}
-use Rattle.moving.proofs.Settled.{MayMove, Reached, Settled}
-use Rattle.moving.proofs.Bytes.{code-move, code-nonzero, zero-rests, label-still}
+use Rattle.moving.specs.Label.{isZero}
+use Rattle.moving.proofs.Settled.{NonZero, MayMove, Reached, Settled}
+use Rattle.moving.proofs.Bytes.{code-move, code-nonzero, zero-rests, label-still, nonzero-outset}
 use Rattle.moving.proofs.Turns.{moveBy-suc, moveBy-other, moveBy-length}
 use Rattle.moving.proofs.Taking.{order-settles}
 use Rattle.moving.proofs.Choice.{choice-chooser}
@@ -90,12 +87,11 @@ module _ (m : Reading) where
           | inr v ↦ inl (true-T _ (code-move (getD codes p 0) (v .1 .edge .code)))
         ]
 
--- only a zero sample has the label zero
-pub zero-sample : (z : ℤ) → labelOf z ≡ Zero → z ≡ pos 0
-unfolding labelOf
-zero-sample (negsuc n) e = cc
-zero-sample (pos n) e = go (eqb n 0) refl e
-  where
-    go : (t : Bool) → eqb n 0 ≡ t → (if t then Zero else Plus) ≡ Zero → pos n ≡ pos 0
-    go true e f = ap pos (eqb-true n 0 e)
-    go false e f = cc
+    -- a point whose label is zero from the start never moves
+    pub reached-rests : (p : ℕ) → m .label p ≡ Zero → getD codes p 0 ≡ 0
+    unfolding isZero
+    reached-rests p z =
+        elim (reached-byte p) [
+          | inl e ↦ e
+          | inr v ↦ absurd (subst NonZero z (nonzero-outset (m .label) (outset m) p (v .1 .here)))
+        ]

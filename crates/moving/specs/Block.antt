@@ -18,9 +18,9 @@ pub record Block : Type 0 where
 abbrev pub blockOf : Sizes → List ℤ → List ℕ → Block
 blockOf s samples cuts = record { sizes = s; samples = samples; cuts = cuts }
 
--- what moving reads of a block: labels are the samples' signs, and the rule is document 01's
-abbrev pub readingOf : Block → Reading
-readingOf b = record { sizes = b .sizes; label = labels (b .samples); cuts = b .cuts; rule = rule1 }
+-- what moving reads of a block: labels are by the band, and the rule is document 01's
+abbrev pub readingOf : ℕ → Block → Reading
+readingOf band b = record { sizes = b .sizes; label = labels band (b .samples); cuts = b .cuts; rule = rule1 }
 
 -- sizes that are taken, and tables of the right lengths
 pub record Tabled (b : Block) : Type 0 where
