@@ -13,7 +13,8 @@ use lib.Signed.{mag, ltZ}
 use mir.Syntax.{w16}
 use mir.Val.{ofZ, toZ}
 use Rattle.basics.proofs.Test.{lt-or}
-use Rattle.moving.specs.Label.{labelOf, isPlus, isMinus}
+use Rattle.moving.specs.Label.{isPlus, isMinus}
+use Rattle.moving.proofs.Band.{label-in}
 use Rattle.ground.specs.inner.Signs.{hasSign}
 use Rattle.ground.proofs.Labels.{handed, less-plus, not-less-plus, less-minus, not-less-minus}
 
@@ -42,68 +43,75 @@ module _ {from o to end : ℕ} (g : end ≤ o) where
         | inr u ↦ List·getD-eq-default bytes 0 (l j (omega arith) b)
       ]
 
--- no sample before p has the sign, unless the flag says so
-pub record Without (plus : Bool) (samples : List ℤ) (from p : ℕ) (found : Bool) : Type 0 where
-  pub none : found ≡ false → (j : ℕ) → from ≤ j → j < p → hasSign plus (getD samples j (pos 0)) ≡ false
+-- no sample before p has the sign by any band by which the outermost one, `x`, has not
+pub record Without (plus : Bool) (samples : List ℤ) (from p : ℕ) (x : ℤ) : Type 0 where
+  pub none : (band : ℕ) → hasSign plus band x ≡ false
+      → (j : ℕ) → from ≤ j → j < p → hasSign plus band (getD samples j (pos 0)) ≡ false
 
 -- one sample more, where `a` was the outermost before it and `b` is the outermost with it
-without-more : {plus : Bool} {samples : List ℤ} {from p : ℕ} (a b : ℤ) → Without plus samples from p (hasSign plus a)
-    → (hasSign plus b ≡ false → hasSign plus a ≡ false) → (hasSign plus b ≡ false → hasSign plus (getD samples p (pos 0)) ≡ false)
-    → Without plus samples from (p + 1) (hasSign plus b)
-without-more {plus} {samples} {from} {p} a b w f g = record { none = λ t j l u. step t j l u }
+without-more : {plus : Bool} {samples : List ℤ} {from p : ℕ} (a b : ℤ) → Without plus samples from p a
+    → ((band : ℕ) → hasSign plus band b ≡ false → hasSign plus band a ≡ false)
+    → ((band : ℕ) → hasSign plus band b ≡ false → hasSign plus band (getD samples p (pos 0)) ≡ false)
+    → Without plus samples from (p + 1) b
+without-more {plus} {samples} {from} {p} a b w f g = record { none = λ band t j l u. step band t j l u }
   where
-    step : hasSign plus b ≡ false → (j : ℕ) → from ≤ j → j < p + 1 → hasSign plus (getD samples j (pos 0)) ≡ false
-    step t j l u =
+    step : (band : ℕ) → hasSign plus band b ≡ false → (j : ℕ) → from ≤ j → j < p + 1 → hasSign plus band (getD samples j (pos 0)) ≡ false
+    step band t j l u =
         elim (lt-or j p) [
-          | inl v ↦ w .none (f t) j l v
-          | inr v ↦ let d : j ≡ p = omega arith in ap (λ (k : ℕ). hasSign plus (getD samples k (pos 0))) d ∙ g t
+          | inl v ↦ w .none band (f band t) j l v
+          | inr v ↦ let d : j ≡ p = omega arith in ap (λ (k : ℕ). hasSign plus band (getD samples k (pos 0))) d ∙ g band t
         ]
 
 -- the same as the code has it: by the bits of the outermost samples, and of the one that was read
 module _ (samples : List ℤ) (from p m n : ℕ) (h : mag (getD samples p (pos 0)) < 2 ^ 15) where
-  read : toZ w16 (ofZ w16 (getD samples p (pos 0))) ≡ getD samples p (pos 0)
-  read = handed (getD samples p (pos 0)) h
+  abbrev x : ℤ
+  x = getD samples p (pos 0)
 
-  taken : (plus : Bool) → n ≡ ofZ w16 (getD samples p (pos 0)) → hasSign plus (toZ w16 n) ≡ false → hasSign plus (getD samples p (pos 0)) ≡ false
-  taken plus e f = ap (hasSign plus) (sym (ap (toZ w16) e ∙ read)) ∙ f
+  read : toZ w16 (ofZ w16 x) ≡ x
+  read = handed x h
 
-  kept : (plus : Bool) → n ≡ m → hasSign plus (toZ w16 n) ≡ false → hasSign plus (toZ w16 m) ≡ false
-  kept plus e f = ap (λ (k : ℕ). hasSign plus (toZ w16 k)) (sym e) ∙ f
+  taken : (plus : Bool) (band : ℕ) → n ≡ ofZ w16 x → hasSign plus band (toZ w16 n) ≡ false → hasSign plus band x ≡ false
+  taken plus band e f = ap (hasSign plus band) (sym (ap (toZ w16) e ∙ read)) ∙ f
 
-  pub higher : Without true samples from p (hasSign true (toZ w16 m)) → ltZ (toZ w16 m) (toZ w16 (ofZ w16 (getD samples p (pos 0)))) ≡ true
-      → n ≡ ofZ w16 (getD samples p (pos 0)) → Without true samples from (p + 1) (hasSign true (toZ w16 n))
+  kept : (plus : Bool) (band : ℕ) → n ≡ m → hasSign plus band (toZ w16 n) ≡ false → hasSign plus band (toZ w16 m) ≡ false
+  kept plus band e f = ap (λ (k : ℕ). hasSign plus band (toZ w16 k)) (sym e) ∙ f
+
+  pub higher : Without true samples from p (toZ w16 m) → ltZ (toZ w16 m) (toZ w16 (ofZ w16 x)) ≡ true → n ≡ ofZ w16 x
+      → Without true samples from (p + 1) (toZ w16 n)
   higher w l e =
       without-more (toZ w16 m) (toZ w16 n) w
-      (λ f. less-plus _ _ (ap (ltZ (toZ w16 m)) (sym read) ∙ l) (taken true e f)) (taken true e)
+      (λ band f. less-plus band _ _ (ap (ltZ (toZ w16 m)) (sym read) ∙ l) (taken true band e f)) (λ band. taken true band e)
 
-  pub not-higher : Without true samples from p (hasSign true (toZ w16 m)) → ltZ (toZ w16 m) (toZ w16 (ofZ w16 (getD samples p (pos 0)))) ≡ false
-      → n ≡ m → Without true samples from (p + 1) (hasSign true (toZ w16 n))
+  pub not-higher : Without true samples from p (toZ w16 m) → ltZ (toZ w16 m) (toZ w16 (ofZ w16 x)) ≡ false → n ≡ m
+      → Without true samples from (p + 1) (toZ w16 n)
   not-higher w l e =
-      without-more (toZ w16 m) (toZ w16 n) w (kept true e)
-      (λ f. not-less-plus _ _ (ap (ltZ (toZ w16 m)) (sym read) ∙ l) (kept true e f))
+      without-more (toZ w16 m) (toZ w16 n) w (λ band. kept true band e)
+      (λ band f. not-less-plus band _ _ (ap (ltZ (toZ w16 m)) (sym read) ∙ l) (kept true band e f))
 
-  pub lower : Without false samples from p (hasSign false (toZ w16 m)) → ltZ (toZ w16 (ofZ w16 (getD samples p (pos 0)))) (toZ w16 m) ≡ true
-      → n ≡ ofZ w16 (getD samples p (pos 0)) → Without false samples from (p + 1) (hasSign false (toZ w16 n))
+  pub lower : Without false samples from p (toZ w16 m) → ltZ (toZ w16 (ofZ w16 x)) (toZ w16 m) ≡ true → n ≡ ofZ w16 x
+      → Without false samples from (p + 1) (toZ w16 n)
   lower w l e =
       without-more (toZ w16 m) (toZ w16 n) w
-      (λ f. less-minus _ _ (ap (λ (x : ℤ). ltZ x (toZ w16 m)) (sym read) ∙ l) (taken false e f)) (taken false e)
+      (λ band f. less-minus band _ _ (ap (λ (z : ℤ). ltZ z (toZ w16 m)) (sym read) ∙ l) (taken false band e f))
+      (λ band. taken false band e)
 
-  pub not-lower : Without false samples from p (hasSign false (toZ w16 m)) → ltZ (toZ w16 (ofZ w16 (getD samples p (pos 0)))) (toZ w16 m) ≡ false
-      → n ≡ m → Without false samples from (p + 1) (hasSign false (toZ w16 n))
+  pub not-lower : Without false samples from p (toZ w16 m) → ltZ (toZ w16 (ofZ w16 x)) (toZ w16 m) ≡ false → n ≡ m
+      → Without false samples from (p + 1) (toZ w16 n)
   not-lower w l e =
-      without-more (toZ w16 m) (toZ w16 n) w (kept false e)
-      (λ f. not-less-minus _ _ (ap (λ (x : ℤ). ltZ x (toZ w16 m)) (sym read) ∙ l) (kept false e f))
+      without-more (toZ w16 m) (toZ w16 n) w (λ band. kept false band e)
+      (λ band f. not-less-minus band _ _ (ap (λ (z : ℤ). ltZ z (toZ w16 m)) (sym read) ∙ l) (kept false band e f))
 
-no-sign : (plus : Bool) → hasSign plus (pos 0) ≡ false
-unfolding hasSign labelOf isPlus isMinus
-no-sign true = refl
-no-sign false = refl
+-- what stands past the end of a table counts as zero, which is in every band
+no-sign : (plus : Bool) (band : ℕ) → hasSign plus band (pos 0) ≡ false
+unfolding hasSign isPlus isMinus
+no-sign true band = rw (label-in band (pos 0) (omega arith)) refl
+no-sign false band = rw (label-in band (pos 0) (omega arith)) refl
 
-pub none-whole : {plus : Bool} {samples : List ℤ} {from p to end : ℕ} {found : Bool} → end ≤ p
-    → ((k : ℕ) → end ≤ k → k < to → length samples ≤ k) → Without plus samples from p found
-    → found ≡ false → (j : ℕ) → from ≤ j → j < to → hasSign plus (getD samples j (pos 0)) ≡ false
-none-whole {plus} {samples} {p = p} g l w t j a b =
+pub none-whole : {plus : Bool} {samples : List ℤ} {from p to end : ℕ} {x : ℤ} → end ≤ p
+    → ((k : ℕ) → end ≤ k → k < to → length samples ≤ k) → Without plus samples from p x
+    → (band : ℕ) → hasSign plus band x ≡ false → (j : ℕ) → from ≤ j → j < to → hasSign plus band (getD samples j (pos 0)) ≡ false
+none-whole {plus} {samples} {p = p} g l w band t j a b =
     elim (lt-or j p) [
-      | inl u ↦ w .none t j a u
-      | inr u ↦ ap (hasSign plus) (List·getD-eq-default samples (pos 0) (l j (omega arith) b)) ∙ no-sign plus
+      | inl u ↦ w .none band t j a u
+      | inr u ↦ ap (hasSign plus band) (List·getD-eq-default samples (pos 0) (l j (omega arith) b)) ∙ no-sign plus band
     ]

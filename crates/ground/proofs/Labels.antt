@@ -1,55 +1,105 @@
--- Signs of samples, as the code tests them: on the number read back from its bits. Assumes nothing.
-use Prim.Native.Nat.{zero, suc, _^_, _<_}
+-- Labels of samples, as the code tests them: on the numbers read back from their bits. Assumes nothing.
+--     above, beneath                    plus is above the band, minus is below it
+--     plus-test, minus-test             as the code compares them, both cast to one type (sample-fits, minus-fits)
+--     handed, plus-handed, ..           a sample that was read and handed on
+--     zero-plus, zero-other, opposed-.. labels by the tests of plus and minus
+--     same-sign                         two samples that both lack a sign
+--     less-plus, .., not-less-minus     the order of two samples, and their labels
+use Prim.Native.Nat.{ℕ, zero, suc, _^_, _≤_, _<_}
 use native.Mathlib.Omega.{arith}
 use mathlib.Core.Path.{_≡_, refl, sym, ap, subst, _∙_}
+use mathlib.Core.Logic.{inl, inr}
 use mathlib.Core.Bool.{Bool, true, false, not}
 use lib.Dec.{T}
-use lib.IntN.{ℤ, pos, negsuc}
+use lib.IntN.{ℤ, pos, negsuc, _-ℤ_}
 use lib.Signed.{mag, ltZ}
-use borrow.Author.Tests.{lt-ltb, le-ltb, ltb-true, ltb-false, ne-eqb}
-use mir.Syntax.{w16}
+use borrow.Author.Tests.{lt-ltb, le-ltb, le-leb, ltb-true, ltb-false, eq-eqb, ne-eqb}
+use mir.Syntax.{w16, w64}
 use mir.Val.{ofZ, toZ, SFits}
 use mir.ValLaws.{toZ-ofZ}
+use Rattle.basics.proofs.Test.{lt-or}
 use Rattle.moving.specs.declared.Label.{Label}
 use Rattle.moving.specs.declared.Label.the-variants.{Minus, Zero, Plus}
-use Rattle.moving.specs.Label.{labelOf, isPlus, isZero, isMinus, opposed}
+use Rattle.moving.specs.Label.{signOf, labelOf, isPlus, isZero, isMinus, opposed}
+use Rattle.moving.proofs.Band.{label-in, label-out, label-or}
 use Rattle.ground.specs.inner.Signs.{hasSign}
 
-above : (x : ℤ) → ltZ (pos 0) x ≡ isPlus (labelOf x)
-unfolding labelOf isPlus
-above (pos zero) = refl
-above (pos (suc n)) = let h : suc n ≡ 0 → ⊥ = λ e. omega arith in simp (lt-ltb 0 (suc n) (omega arith), ne-eqb (suc n) 0 h)
-above (negsuc n) = refl
+false-true : {A : Type 0} → _≡_ {A = Bool} false true → A
+false-true e = absurd (subst T (sym e) tt)
 
-beneath : (x : ℤ) → ltZ x (pos 0) ≡ isMinus (labelOf x)
-unfolding labelOf isMinus
-beneath (pos zero) = refl
-beneath (pos (suc n)) = let h : suc n ≡ 0 → ⊥ = λ e. omega arith in simp (le-ltb (suc n) 0 (omega arith), ne-eqb (suc n) 0 h)
-beneath (negsuc n) = refl
+pub above : (band : ℕ) (x : ℤ) → ltZ (pos band) x ≡ isPlus (labelOf band x)
+unfolding signOf isPlus
+above band (negsuc n) = elim (label-or band (negsuc n)) [ inl z ↦ rw z refl | inr s ↦ rw s refl ]
+above band (pos n) =
+    elim (lt-or band n) [
+      | inl l ↦ rw (label-out band (pos n) l, ne-eqb n 0 (λ e. omega arith)) (lt-ltb band n l)
+      | inr l ↦ rw (label-in band (pos n) l) (le-ltb band n l)
+    ]
 
-module _ (x : ℤ) (f : SFits w16 x) where
-  pub plus-test : ltZ (pos 0) (toZ w16 (ofZ w16 x)) ≡ isPlus (labelOf x)
-  plus-test = ap (ltZ (pos 0)) (toZ-ofZ w16 x f) ∙ above x
+-- no sample from zero on is below a band
+not-minus : (band n : ℕ) → false ≡ isMinus (labelOf band (pos n))
+unfolding signOf isMinus
+not-minus band n =
+    elim (label-or band (pos n)) [
+      | inl z ↦ rw z refl
+      | inr s ↦ elim (lt-or 0 n) [ inl l ↦ rw (s, ne-eqb n 0 (λ e. omega arith)) refl | inr l ↦ rw (s, eq-eqb n 0 (omega arith)) refl ]
+    ]
 
-  pub minus-test : ltZ (toZ w16 (ofZ w16 x)) (pos 0) ≡ isMinus (labelOf x)
-  minus-test = ap (λ (z : ℤ). ltZ z (pos 0)) (toZ-ofZ w16 x f) ∙ beneath x
+-- the lower end of a band
+low-is : (b : ℕ) → pos 0 -ℤ pos (suc b) ≡ negsuc b
+low-is b = rw (le-leb 1 (suc b) (omega arith)) (ap negsuc (omega arith))
+
+pub beneath : (band : ℕ) (x : ℤ) → ltZ x (pos 0 -ℤ pos band) ≡ isMinus (labelOf band x)
+unfolding signOf isMinus
+beneath zero (negsuc n) = rw (label-out 0 (negsuc n) (omega arith)) refl
+beneath (suc b) (negsuc n) =
+    elim (lt-or b n) [
+      | inl l ↦ rw (low-is b, label-out (suc b) (negsuc n) (omega arith)) (lt-ltb b n l)
+      | inr l ↦ rw (low-is b, label-in (suc b) (negsuc n) (omega arith)) (le-ltb b n l)
+    ]
+beneath zero (pos n) = le-ltb n 0 (omega arith) ∙ not-minus 0 n
+beneath (suc b) (pos n) = rw (low-is b) (not-minus (suc b) n)
+
+-- both as the code has them: cast to one type in which they fit
+band-small : (band : ℕ) → band < 2 ^ 32 → toZ w64 band ≡ pos band
+band-small band h = toZ-ofZ w64 (pos band) (record { sfits = omega arith })
+
+pub minus-fits : (band : ℕ) → band < 2 ^ 32 → SFits w64 (pos 0 -ℤ toZ w64 band)
+minus-fits band h = rw (band-small band h) (go band h)
+  where
+    go : (n : ℕ) → n < 2 ^ 32 → SFits w64 (pos 0 -ℤ pos n)
+    go zero h = record { sfits = omega arith }
+    go (suc n) h = rw (low-is n) (record { sfits = omega arith })
+
+pub sample-fits : (x : ℤ) → SFits w16 x → SFits w64 (toZ w16 (ofZ w16 x))
+sample-fits x f = rw (toZ-ofZ w16 x f) (record { sfits = omega (arith, f .sfits) })
+
+module _ (band : ℕ) (x : ℤ) (b : band < 2 ^ 32) (f : SFits w16 x) where
+  sample-is : toZ w64 (ofZ w64 (toZ w16 (ofZ w16 x))) ≡ x
+  sample-is = toZ-ofZ w64 _ (sample-fits x f) ∙ toZ-ofZ w16 x f
+
+  pub plus-test : ltZ (toZ w64 band) (toZ w64 (ofZ w64 (toZ w16 (ofZ w16 x)))) ≡ isPlus (labelOf band x)
+  plus-test = rw (band-small band b, sample-is) (above band x)
+
+  pub minus-test : ltZ (toZ w64 (ofZ w64 (toZ w16 (ofZ w16 x)))) (toZ w64 (ofZ w64 (pos 0 -ℤ toZ w64 band))) ≡ isMinus (labelOf band x)
+  minus-test = rw (toZ-ofZ w64 _ (minus-fits band b), band-small band b, sample-is) (beneath band x)
 
 -- a sample that was read and handed on
 pub handed : (x : ℤ) → mag x < 2 ^ 15 → toZ w16 (ofZ w16 x) ≡ x
 handed x h = toZ-ofZ w16 x (record { sfits = h })
 
-pub plus-handed : (x : ℤ) → mag x < 2 ^ 15 → isPlus (labelOf (toZ w16 (ofZ w16 x))) ≡ isPlus (labelOf x)
-plus-handed x h = ap (λ (z : ℤ). isPlus (labelOf z)) (handed x h)
+pub plus-handed : (band : ℕ) (x : ℤ) → mag x < 2 ^ 15 → isPlus (labelOf band (toZ w16 (ofZ w16 x))) ≡ isPlus (labelOf band x)
+plus-handed band x h = ap (λ (z : ℤ). isPlus (labelOf band z)) (handed x h)
 
-pub opposed-handed : (x y : ℤ) → mag x < 2 ^ 15 → mag y < 2 ^ 15
-    → opposed (labelOf (toZ w16 (ofZ w16 x))) (labelOf (toZ w16 (ofZ w16 y))) ≡ opposed (labelOf x) (labelOf y)
-opposed-handed x y h g = λ i. opposed (labelOf (handed x h i)) (labelOf (handed y g i))
+pub minus-handed : (band : ℕ) (x : ℤ) → mag x < 2 ^ 15 → isMinus (labelOf band (toZ w16 (ofZ w16 x))) ≡ isMinus (labelOf band x)
+minus-handed band x h = ap (λ (z : ℤ). isMinus (labelOf band z)) (handed x h)
 
-pub sign-handed : (plus : Bool) (x : ℤ) → mag x < 2 ^ 15 → hasSign plus (toZ w16 (ofZ w16 x)) ≡ hasSign plus x
-sign-handed plus x h = ap (hasSign plus) (handed x h)
+pub opposed-handed : (band : ℕ) (x y : ℤ) → mag x < 2 ^ 15 → mag y < 2 ^ 15
+    → opposed (labelOf band (toZ w16 (ofZ w16 x))) (labelOf band (toZ w16 (ofZ w16 y))) ≡ opposed (labelOf band x) (labelOf band y)
+opposed-handed band x y h g = λ i. opposed (labelOf band (handed x h i)) (labelOf band (handed y g i))
 
-false-true : {A : Type 0} → _≡_ {A = Bool} false true → A
-false-true e = absurd (subst T (sym e) tt)
+pub sign-handed : (plus : Bool) (band : ℕ) (x : ℤ) → mag x < 2 ^ 15 → hasSign plus band (toZ w16 (ofZ w16 x)) ≡ hasSign plus band x
+sign-handed plus band x h = ap (hasSign plus band) (handed x h)
 
 -- a label is zero where it is neither plus nor minus
 pub zero-plus : (l : Label) → isPlus l ≡ true → false ≡ isZero l
@@ -83,55 +133,53 @@ opposed-none Zero m e f = refl
 opposed-none Plus m e f = false-true (sym f)
 
 -- two samples that both lack the sign
-pub same-sign : (plus : Bool) (x y : ℤ) → hasSign plus x ≡ false → hasSign plus y ≡ false → opposed (labelOf x) (labelOf y) ≡ false
+pub same-sign : (plus : Bool) (band : ℕ) (x y : ℤ) → hasSign plus band x ≡ false → hasSign plus band y ≡ false
+    → opposed (labelOf band x) (labelOf band y) ≡ false
 unfolding hasSign opposed isPlus isMinus
-same-sign true x y e f = go (labelOf x) e
+same-sign true band x y e f = go (labelOf band x) e
   where
-    go : (l : Label) → isPlus l ≡ false → opposed l (labelOf y) ≡ false
+    go : (l : Label) → isPlus l ≡ false → opposed l (labelOf band y) ≡ false
     go Minus d = f
     go Zero d = refl
     go Plus d = false-true (sym d)
-same-sign false x y e f = go (labelOf x) e
+same-sign false band x y e f = go (labelOf band x) e
   where
-    go : (l : Label) → isMinus l ≡ false → opposed l (labelOf y) ≡ false
+    go : (l : Label) → isMinus l ≡ false → opposed l (labelOf band y) ≡ false
     go Minus d = false-true (sym d)
     go Zero d = refl
     go Plus d = f
 
--- the order of two samples, and their signs
-plus-down : (x y : ℤ) → ltZ x y ≡ true → ltZ (pos 0) y ≡ false → ltZ (pos 0) x ≡ false
-plus-down (negsuc a) y e f = refl
-plus-down (pos a) (negsuc b) e f = false-true e
-plus-down (pos a) (pos b) e f = let l = ltb-true a b e in let m = ltb-false 0 b f in absurd (omega arith)
+-- the order of samples: one that is no higher than another is above a limit only if that one is
+no-higher : (x y z : ℤ) → ltZ y x ≡ false → ltZ z y ≡ false → ltZ z x ≡ false
+no-higher (pos a) (pos b) (pos c) e f = let l = ltb-false b a e in let m = ltb-false c b f in le-ltb c a (omega arith)
+no-higher (pos a) (pos b) (negsuc c) e f = false-true (sym f)
+no-higher (pos a) (negsuc b) z e f = false-true (sym e)
+no-higher (negsuc a) y (pos c) e f = refl
+no-higher (negsuc a) (pos b) (negsuc c) e f = false-true (sym f)
+no-higher (negsuc a) (negsuc b) (negsuc c) e f = let l = ltb-false a b e in let m = ltb-false b c f in le-ltb a c (omega arith)
 
-plus-up : (x y : ℤ) → ltZ x y ≡ false → ltZ (pos 0) x ≡ false → ltZ (pos 0) y ≡ false
-plus-up x (negsuc b) e f = refl
-plus-up (negsuc a) (pos b) e f = false-true (sym e)
-plus-up (pos a) (pos b) e f = let l = ltb-false a b e in let m = ltb-false 0 a f in le-ltb 0 b (omega arith)
+less-not : (x y : ℤ) → ltZ x y ≡ true → ltZ y x ≡ false
+less-not (pos a) (pos b) e = let l = ltb-true a b e in le-ltb b a (omega arith)
+less-not (pos a) (negsuc b) e = false-true e
+less-not (negsuc a) (pos b) e = refl
+less-not (negsuc a) (negsuc b) e = let l = ltb-true b a e in le-ltb a b (omega arith)
 
-minus-up : (x y : ℤ) → ltZ x y ≡ true → ltZ x (pos 0) ≡ false → ltZ y (pos 0) ≡ false
-minus-up (negsuc a) y e f = false-true (sym f)
-minus-up (pos a) (negsuc b) e f = false-true e
-minus-up (pos a) (pos b) e f = le-ltb b 0 (omega arith)
+module _ (band : ℕ) (x y : ℤ) where
+  abbrev low : ℤ
+  low = pos 0 -ℤ pos band
 
-minus-down : (x y : ℤ) → ltZ x y ≡ false → ltZ y (pos 0) ≡ false → ltZ x (pos 0) ≡ false
-minus-down (pos a) y e f = le-ltb a 0 (omega arith)
-minus-down (negsuc a) (pos b) e f = false-true (sym e)
-minus-down (negsuc a) (negsuc b) e f = false-true (sym f)
-
-module _ (x y : ℤ) where
-  pub less-plus : ltZ x y ≡ true → hasSign true y ≡ false → hasSign true x ≡ false
+  pub less-plus : ltZ x y ≡ true → hasSign true band y ≡ false → hasSign true band x ≡ false
   unfolding hasSign
-  less-plus e f = sym (above x) ∙ plus-down x y e (above y ∙ f)
+  less-plus e f = sym (above band x) ∙ no-higher x y (pos band) (less-not x y e) (above band y ∙ f)
 
-  pub not-less-plus : ltZ x y ≡ false → hasSign true x ≡ false → hasSign true y ≡ false
+  pub not-less-plus : ltZ x y ≡ false → hasSign true band x ≡ false → hasSign true band y ≡ false
   unfolding hasSign
-  not-less-plus e f = sym (above y) ∙ plus-up x y e (above x ∙ f)
+  not-less-plus e f = sym (above band y) ∙ no-higher y x (pos band) e (above band x ∙ f)
 
-  pub less-minus : ltZ x y ≡ true → hasSign false x ≡ false → hasSign false y ≡ false
+  pub less-minus : ltZ x y ≡ true → hasSign false band x ≡ false → hasSign false band y ≡ false
   unfolding hasSign
-  less-minus e f = sym (beneath y) ∙ minus-up x y e (beneath x ∙ f)
+  less-minus e f = sym (beneath band y) ∙ no-higher low x y (beneath band x ∙ f) (less-not x y e)
 
-  pub not-less-minus : ltZ x y ≡ false → hasSign false y ≡ false → hasSign false x ≡ false
+  pub not-less-minus : ltZ x y ≡ false → hasSign false band y ≡ false → hasSign false band x ≡ false
   unfolding hasSign
-  not-less-minus e f = sym (beneath x) ∙ minus-down x y e (beneath y ∙ f)
+  not-less-minus e f = sym (beneath band x) ∙ no-higher low y x (beneath band y ∙ f) e

@@ -30,10 +30,12 @@ pub fn is_blank(bytes: &[u8], from: usize, to: usize) -> bool
     top == 0
 }
 
-// The highest sample from one on and before another, or 0 if none is above zero.
+// The highest sample from one on and before another, or 0 if none is above zero: where it is not
+// plus, by whatever band, none is.
 fn highest(samples: &[i16], from: usize, to: usize) -> i16
     requires { ⌜ length (now samples) ≤ most ⌝ }
-    ensures { λ r. ⌜ (hasSign true r ≡ false → (p : ℕ) → from ≤ p → p < to → hasSign true (getD (now (samples .entry)) p (pos 0)) ≡ false) ⌝ }
+    ensures { λ r. ⌜ ((band : ℕ) → hasSign true band r ≡ false
+        → (p : ℕ) → from ≤ p → p < to → hasSign true band (getD (now (samples .entry)) p (pos 0)) ≡ false) ⌝ }
 {
     let end = lesser(to, samples.len());
     let mut most: i16 = 0;
@@ -46,10 +48,12 @@ fn highest(samples: &[i16], from: usize, to: usize) -> i16
     most
 }
 
-// The lowest sample from one on and before another, or 0 if none is below zero.
+// The lowest sample from one on and before another, or 0 if none is below zero: where it is not
+// minus, by whatever band, none is.
 fn lowest(samples: &[i16], from: usize, to: usize) -> i16
     requires { ⌜ length (now samples) ≤ most ⌝ }
-    ensures { λ r. ⌜ (hasSign false r ≡ false → (p : ℕ) → from ≤ p → p < to → hasSign false (getD (now (samples .entry)) p (pos 0)) ≡ false) ⌝ }
+    ensures { λ r. ⌜ ((band : ℕ) → hasSign false band r ≡ false
+        → (p : ℕ) → from ≤ p → p < to → hasSign false band (getD (now (samples .entry)) p (pos 0)) ≡ false) ⌝ }
 {
     let end = lesser(to, samples.len());
     let mut least: i16 = 0;
@@ -62,13 +66,15 @@ fn lowest(samples: &[i16], from: usize, to: usize) -> i16
     least
 }
 
-// Some sample from one on and before another is above zero, or some is below.
-pub fn has_some(plus: bool, samples: &[i16], from: usize, to: usize) -> bool
+// Some sample from one on and before another is above the band, or some is below it: the outermost
+// one is.
+pub fn has_some(plus: bool, band: u32, samples: &[i16], from: usize, to: usize) -> bool
     requires { ⌜ length (now samples) ≤ most ⌝ }
-    ensures { λ r. ⌜ (r ≡ false → (p : ℕ) → from ≤ p → p < to → hasSign plus (getD (now (samples .entry)) p (pos 0)) ≡ false) ⌝ }
+    ensures { λ r. ⌜ (r ≡ false
+        → (p : ℕ) → from ≤ p → p < to → hasSign plus band (getD (now (samples .entry)) p (pos 0)) ≡ false) ⌝ }
 {
     if plus {
-        return signs::has_sign(plus, highest(samples, from, to));
+        return signs::has_sign(plus, band, highest(samples, from, to));
     }
-    signs::has_sign(plus, lowest(samples, from, to))
+    signs::has_sign(plus, band, lowest(samples, from, to))
 }

@@ -1,48 +1,49 @@
-// Signs of samples: the one place where the code makes a label of a sample.
+// Labels of samples by a band: the one place where the code makes a label of a sample. By the band 0
+// a label is the sample's own sign.
 ghost use mathlib.Core.Path.{_≡_};
 ghost use Rattle.moving.specs.Label.{labelOf, isPlus, isZero, isMinus, opposed};
 ghost use Rattle.ground.specs.inner.Signs.{hasSign};
 
-pub fn is_plus(a: i16) -> bool
-    ensures { λ r. ⌜ r ≡ isPlus (labelOf a) ⌝ }
+pub fn is_plus(band: u32, a: i16) -> bool
+    ensures { λ r. ⌜ r ≡ isPlus (labelOf band a) ⌝ }
 {
-    0 < a
+    (band as i64) < (a as i64)
 }
 
-pub fn is_zero(a: i16) -> bool
-    ensures { λ r. ⌜ r ≡ isZero (labelOf a) ⌝ }
+pub fn is_minus(band: u32, a: i16) -> bool
+    ensures { λ r. ⌜ r ≡ isMinus (labelOf band a) ⌝ }
 {
-    if 0 < a {
+    (a as i64) < -(band as i64)
+}
+
+pub fn is_zero(band: u32, a: i16) -> bool
+    ensures { λ r. ⌜ r ≡ isZero (labelOf band a) ⌝ }
+{
+    if is_plus(band, a) {
         return false;
     }
-    !(a < 0)
+    !is_minus(band, a)
 }
 
-pub fn is_minus(a: i16) -> bool
-    ensures { λ r. ⌜ r ≡ isMinus (labelOf a) ⌝ }
-{
-    a < 0
-}
-
-// A sample is above zero, or below.
-pub fn has_sign(plus: bool, a: i16) -> bool
-    ensures { λ r. ⌜ r ≡ hasSign plus a ⌝ }
+// A sample's label is plus, or minus.
+pub fn has_sign(plus: bool, band: u32, a: i16) -> bool
+    ensures { λ r. ⌜ r ≡ hasSign plus band a ⌝ }
 {
     if plus {
-        return 0 < a;
+        return is_plus(band, a);
     }
-    a < 0
+    is_minus(band, a)
 }
 
-// One sample is above zero and the other is below.
-pub fn opposite(a: i16, b: i16) -> bool
-    ensures { λ r. ⌜ r ≡ opposed (labelOf a) (labelOf b) ⌝ }
+// One sample's label is plus and the other's is minus.
+pub fn opposite(band: u32, a: i16, b: i16) -> bool
+    ensures { λ r. ⌜ r ≡ opposed (labelOf band a) (labelOf band b) ⌝ }
 {
-    if a < 0 {
-        return 0 < b;
+    if is_minus(band, a) {
+        return is_plus(band, b);
     }
-    if 0 < a {
-        return b < 0;
+    if is_plus(band, a) {
+        return is_minus(band, b);
     }
     false
 }

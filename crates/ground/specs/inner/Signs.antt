@@ -1,9 +1,10 @@
--- Samples of a sign.
+-- Samples of a sign, by a band.
+use Prim.Native.Nat.{ℕ}
 use mathlib.Core.Bool.{Bool, true, false}
 use lib.IntN.{ℤ}
 use Rattle.moving.specs.Label.{labelOf, isPlus, isMinus}
 
--- above zero, or below
-unfoldable pub hasSign : Bool → ℤ → Bool
-hasSign true x = isPlus (labelOf x)
-hasSign false x = isMinus (labelOf x)
+-- above the band, or below it
+unfoldable pub hasSign : Bool → ℕ → ℤ → Bool
+hasSign true band x = isPlus (labelOf band x)
+hasSign false band x = isMinus (labelOf band x)

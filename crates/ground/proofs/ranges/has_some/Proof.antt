@@ -20,8 +20,9 @@ returns c =
     let a = c .before .before .before .args in
     let o = c .before .highest in
     let e = c .before .before .if1 .taken in
-    λ t p l u. ap (λ (s : Bool). hasSign s (getD (a .samples .now) p (pos 0))) e
-    ∙ o .ensures (ap (λ (s : Bool). hasSign s (o .result)) (sym e) ∙ sym (sign-handed _ (o .result) (o .ok)) ∙ sym (c .has-sign .ensures) ∙ t) p l u
+    let signed = sym (sign-handed _ _ (o .result) (o .ok)) ∙ sym (c .has-sign .ensures) in
+    λ t p l u. ap (λ (s : Bool). hasSign s (a .band) (getD (a .samples .now) p (pos 0))) e
+    ∙ o .ensures _ (ap (λ (s : Bool). hasSign s (a .band) (o .result)) (sym e) ∙ signed ∙ t) p l u
 
 lowest-requires : tie.Need-lowest-requires
 lowest-requires c κs = search needs
@@ -34,8 +35,9 @@ returns-2 c =
     let a = c .before .before .before .args in
     let o = c .before .lowest in
     let e = c .before .before .if1 .left in
-    λ t p l u. ap (λ (s : Bool). hasSign s (getD (a .samples .now) p (pos 0))) e
-    ∙ o .ensures (ap (λ (s : Bool). hasSign s (o .result)) (sym e) ∙ sym (sign-handed _ (o .result) (o .ok)) ∙ sym (c .has-sign2 .ensures) ∙ t) p l u
+    let signed = sym (sign-handed _ _ (o .result) (o .ok)) ∙ sym (c .has-sign2 .ensures) in
+    λ t p l u. ap (λ (s : Bool). hasSign s (a .band) (getD (a .samples .now) p (pos 0))) e
+    ∙ o .ensures _ (ap (λ (s : Bool). hasSign s (a .band) (o .result)) (sym e) ∙ signed ∙ t) p l u
 
 pub has-some-spec : {M : Type 1} → statement M
 has-some-spec =

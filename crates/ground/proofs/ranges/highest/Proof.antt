@@ -1,18 +1,17 @@
--- The loop's invariant: a sample seen has the sign only if the outermost one has. Assumes nothing.
+-- The loop's invariant: by whatever band, a sample seen has the sign only if the outermost one has. Assumes nothing.
 use Prim.Native.Nat.{_-_}
 use native.Mathlib.Omega.{arith}
 use mathlib.Core.Bool.{true}
 use mathlib.Core.Logic.{⊎-elim}
 use mir.Syntax.{w16}
 use mir.Val.{toZ}
-use Rattle.ground.specs.inner.Signs.{hasSign}
 use Rattle.ground.proofs.Folds.{Without, higher, not-higher, none-whole}
 use borrow.Author.Needs.{needs}
 use Rattle.ground.proofs.ranges.highest.Statement.{statement}
 use Rattle.ground.proofs.ranges.highest.Tie as tie
 
 abbrev Inv-loop : tie.InvT-loop
-Inv-loop samples from to end most₀ p₀ most p = Without true samples from p (hasSign true (toZ w16 most))
+Inv-loop samples from to end most₀ p₀ most p = Without true samples from p (toZ w16 most)
 
 abbrev μ-loop : tie.MeasureT-loop
 μ-loop samples from to end most₀ p₀ most p = end - p
@@ -21,7 +20,7 @@ lesser-requires : tie.Need-lesser-requires Inv-loop μ-loop
 lesser-requires c κs = search needs
 
 loop-holds : tie.Need-loop-holds Inv-loop μ-loop
-loop-holds c = record { none = λ t j a b. absurd (omega arith) }
+loop-holds c = record { none = λ band t j a b. absurd (omega arith) }
 
 mul-x : tie.Need-mul-x Inv-loop μ-loop
 mul-x c = omega (arith, c .before .before .lesser .ensures .1)

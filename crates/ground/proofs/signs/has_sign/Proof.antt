@@ -2,17 +2,30 @@
 use mathlib.Core.Path.{sym, ap, _∙_}
 use mathlib.Core.Bool.{Bool}
 use Rattle.ground.specs.inner.Signs.{hasSign}
-use Rattle.ground.proofs.Labels.{plus-test, minus-test}
+use Rattle.ground.proofs.Labels.{plus-handed, minus-handed}
+use borrow.Author.Needs.{needs}
 use Rattle.ground.proofs.signs.has_sign.Statement.{statement}
 use Rattle.ground.proofs.signs.has_sign.Tie as tie
 
+is-plus-requires : tie.Need-is-plus-requires
+is-plus-requires c κs = search needs
+
 returns : tie.Need-returns
 unfolding hasSign
-returns c = plus-test _ (c .before .fits .a) ∙ ap (λ (p : Bool). hasSign p (c .before .args .a)) (sym (c .if1 .taken))
+returns c =
+    let at-start = c .before .before in
+    let a = at-start .args in
+    c .is-plus .ensures ∙ plus-handed _ _ (at-start .fits .a .sfits) ∙ ap (λ (p : Bool). hasSign p (a .band) (a .a)) (sym (c .before .if1 .taken))
+
+is-minus-requires : tie.Need-is-minus-requires
+is-minus-requires c κs = search needs
 
 returns-2 : tie.Need-returns-2
 unfolding hasSign
-returns-2 c = minus-test _ (c .before .fits .a) ∙ ap (λ (p : Bool). hasSign p (c .before .args .a)) (sym (c .if1 .left))
+returns-2 c =
+    let at-start = c .before .before in
+    let a = at-start .args in
+    c .is-minus .ensures ∙ minus-handed _ _ (at-start .fits .a .sfits) ∙ ap (λ (p : Bool). hasSign p (a .band) (a .a)) (sym (c .before .if1 .left))
 
 pub has-sign-spec : {M : Type 1} → statement M
-has-sign-spec = tie.close (tie.spec returns returns-2)
+has-sign-spec = tie.close (tie.spec is-plus-requires returns is-minus-requires returns-2)
