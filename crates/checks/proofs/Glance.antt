@@ -7,7 +7,7 @@
 use Prim.Native.Nat.{ℕ, _+_, _*_, _-_, _/_, _%_, _≤_, _<_}
 use native.Mathlib.Nat.{le-mul-of-pos-right}
 use native.Mathlib.Omega.{arith}
-use mathlib.Core.Path.{_≡_, refl, sym, ap, _∙_}
+use mathlib.Core.Path.{_≡_, refl, sym, ap, subst, _∙_}
 use mathlib.Core.Bool.{Bool, false}
 use mathlib.Core.List.{List}
 use lib.IntN.{ℤ, pos}
@@ -21,7 +21,8 @@ use Rattle.lattice.specs.Counts.{Sized, grid}
 use Rattle.lattice.specs.inner.Site.{Sited}
 use Rattle.lattice.proofs.Sites.{by-direction}
 use Rattle.moving.specs.declared.Label.{Label}
-use Rattle.moving.specs.Label.{labels}
+use Rattle.moving.specs.Label.{signs, labels}
+use Rattle.moving.proofs.Band.{labels-raw}
 use Rattle.filling.specs.Check.{crosses, cutFault}
 use Rattle.ground.specs.inner.Lines.{Line, lineAt}
 use Rattle.ground.specs.inner.Signs.{hasSign}
@@ -81,12 +82,12 @@ ends-on s q g x d i = go (q .kind) refl
 module _ {s : Sizes} {samples : List ℤ} {q : Site} (h : Sized s) (l : Line s (q .own) q) {plus : Bool} {starts : List ℕ} {m : ℕ}
     (v : Covers (q .own) (endsAt s q) starts) (e : m ≡ grid s (q .kind) along-x) (w : Level plus samples starts m) where
   abbrev Unsigned : ℕ → Type 0
-  Unsigned p = hasSign plus (getD samples p (pos 0)) ≡ false
+  Unsigned p = hasSign plus 0 (getD samples p (pos 0)) ≡ false
 
   module _ (x : ℕ) (i : x < m) where
     self-unsigned : Unsigned (q .own + x)
     self-unsigned =
-        ap (λ (p : ℕ). hasSign plus (getD samples (p + x) (pos 0))) (sym (v .self)) ∙ w .none 0 (omega arith) x (omega arith)
+        ap (λ (p : ℕ). hasSign plus 0 (getD samples (p + x) (pos 0))) (sym (v .self)) ∙ w .none 0 (omega arith) x (omega arith)
 
     end-unsigned : (d : ℕ) → d < 7 → Unsigned (getD (endsAt s (lineAt q x)) d 0)
     end-unsigned d j =
@@ -94,24 +95,28 @@ module _ {s : Sizes} {samples : List ℤ} {q : Site} (h : Sized s) (l : Line s (
         let y = getD (endsAt s q) d 0 - getD starts (r .range) 0 + x in
         let f : getD (endsAt s (lineAt q x)) d 0 ≡ getD starts (r .range) 0 + y
         = omega (arith, ends-on s q (sited (line-stands l)) x d j, r .from) in
-        ap (λ (p : ℕ). hasSign plus (getD samples p (pos 0))) f ∙ w .none (r .range) (r .is-range) y (omega (arith, r .to))
+        ap (λ (p : ℕ). hasSign plus 0 (getD samples p (pos 0))) f ∙ w .none (r .range) (r .is-range) y (omega (arith, r .to))
 
-    level-calm : Calm (labels samples) (q .own + x) (endsAt s (lineAt q x))
+    level-calm : Calm (signs samples) (q .own + x) (endsAt s (lineAt q x))
     unfolding labels
-    level-calm = record { none = λ d j. same-sign plus _ _ self-unsigned (end-unsigned d j) }
+    level-calm =
+        subst (λ (label : ℕ → Label). Calm label (q .own + x) (endsAt s (lineAt q x))) (labels-raw samples) calm
+      where
+        calm : Calm (labels 0 samples) (q .own + x) (endsAt s (lineAt q x))
+        calm = record { none = λ d j. same-sign plus 0 _ _ self-unsigned (end-unsigned d j) }
 
-    level-none : (d : ℕ) → d < 7 → crosses s (labels samples) (q .own + x) d ≡ false
+    level-none : (d : ℕ) → d < 7 → crosses s (signs samples) (q .own + x) d ≡ false
     level-none = calm-none h (sited (line-at l x (omega arith))) level-calm
 
   pub level-fine : (cuts : List ℕ) → ((o : ℕ) → 7 * q .own ≤ o → o < 7 * (q .own + m) → getD cuts o 0 ≡ 0)
-      → LineFine s (labels samples) cuts q
+      → LineFine s (signs samples) cuts q
   level-fine cuts z = record { is = at }
     where
-      at : (o : ℕ) → 7 * q .own ≤ o → o < 7 * (q .own + grid s (q .kind) along-x) → cutFault s (labels samples) cuts o ≡ 0
+      at : (o : ℕ) → 7 * q .own ≤ o → o < 7 * (q .own + grid s (q .kind) along-x) → cutFault s (signs samples) cuts o ≡ 0
       at o a b =
           let f : o / 7 ≡ q .own + (o / 7 - q .own) = omega arith in
           let n = level-none (o / 7 - q .own) (omega arith) (o % 7) (omega arith) in
-          byte-fine s (labels samples) cuts o (ap (λ (p : ℕ). crosses s (labels samples) p (o % 7)) f ∙ n) (z o a (omega arith))
+          byte-fine s (signs samples) cuts o (ap (λ (p : ℕ). crosses s (signs samples) p (o % 7)) f ∙ n) (z o a (omega arith))
 
 -- where the five ranges start
 module _ (s : Sizes) (q : Site) where

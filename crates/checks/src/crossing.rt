@@ -14,7 +14,7 @@ ghost use Rattle.lattice.specs.Direction.{asStart};
 ghost use Rattle.lattice.specs.Edge.{exists};
 ghost use Rattle.lattice.specs.Rim.{rimAt};
 ghost use Rattle.lattice.specs.inner.Site.{Sited, index};
-ghost use Rattle.moving.specs.Label.{labels};
+ghost use Rattle.moving.specs.Label.{signs};
 ghost use Rattle.filling.specs.Check.{crosses};
 ghost use Rattle.ground.specs.inner.Strides.{endsAt};
 ghost use Rattle.checks.specs.inner.Faults.{Asked, crossingsAt};
@@ -39,7 +39,7 @@ fn crosses(s: Sizes, samples: &[i16], q: Site, outer: bool, d: usize, far: usize
     requires { ⌜ outer ≡ rimAt s (q .kind) (index q) ⌝ }
     requires { ⌜ d < 7 ⌝ }
     requires { ⌜ far ≡ getD (endsAt s q) d 0 ⌝ }
-    ensures { λ r. ⌜ r ≡ crosses s (labels (now (samples .entry))) (q .own) d ⌝ }
+    ensures { λ r. ⌜ r ≡ crosses s (signs (now (samples .entry))) (q .own) d ⌝ }
 {
     if is_there(s, q, outer, d) {
         return points::are_opposed(samples, q.own, far);
@@ -49,7 +49,7 @@ fn crosses(s: Sizes, samples: &[i16], q: Site, outer: bool, d: usize, far: usize
 
 pub fn crossings(s: Sizes, samples: &[i16], q: Site) -> [bool; 7]
     requires { ⌜ Asked s (now samples) q ⌝ }
-    ensures { λ r. ⌜ r ≡ crossingsAt s (labels (now (samples .entry))) (q .own) ⌝ }
+    ensures { λ r. ⌜ r ≡ crossingsAt s (signs (now (samples .entry))) (q .own) ⌝ }
 {
     let far = strides::ahead(s, q);
     let outer = rim::is_rim(s, q);

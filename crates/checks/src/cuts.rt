@@ -11,7 +11,7 @@ use lattice::numbers;
 ghost use mathlib.Core.Path.{_≡_};
 ghost use lib.ListN.{length};
 ghost use Rattle.moving.specs.Block.{blockOf, Tabled};
-ghost use Rattle.moving.specs.Label.{labels};
+ghost use Rattle.moving.specs.Label.{signs};
 ghost use Rattle.ground.specs.inner.Lines.{Line};
 ghost use Rattle.checks.specs.inner.Faults.{Asked, PointAnswered, LineAnswered, CutAnswer};
 
@@ -19,7 +19,7 @@ ghost use Rattle.checks.specs.inner.Faults.{Asked, PointAnswered, LineAn
 fn site_fault(s: Sizes, samples: &[i16], bytes: &[u8], q: Site) -> Fault
     requires { ⌜ Asked s (now samples) q ⌝ }
     requires { ⌜ length (now bytes) ≡ 7 ⌝ }
-    ensures { λ r. ⌜ PointAnswered s (labels (now (samples .entry))) (now (bytes .entry)) q r ⌝ }
+    ensures { λ r. ⌜ PointAnswered s (signs (now (samples .entry))) (now (bytes .entry)) q r ⌝ }
 {
     if quiet::is_quiet(s, samples, bytes, q) {
         return Fault::Fine;
@@ -32,7 +32,7 @@ fn site_fault(s: Sizes, samples: &[i16], bytes: &[u8], q: Site) -> Fault
 fn line_search(s: Sizes, samples: &[i16], cuts: &[u8], q: Site) -> Fault
     requires { ⌜ Tabled (blockOf s (now samples) (now cuts)) ⌝ }
     requires { ⌜ Line s (q .own) q ⌝ }
-    ensures { λ r. ⌜ LineAnswered s (labels (now (samples .entry))) (now (cuts .entry)) q r ⌝ }
+    ensures { λ r. ⌜ LineAnswered s (signs (now (samples .entry))) (now (cuts .entry)) q r ⌝ }
 {
     let kind = q.kind;
     let own = q.own;
@@ -54,7 +54,7 @@ fn line_search(s: Sizes, samples: &[i16], cuts: &[u8], q: Site) -> Fault
 fn line_fault(s: Sizes, samples: &[i16], cuts: &[u8], q: Site) -> Fault
     requires { ⌜ Tabled (blockOf s (now samples) (now cuts)) ⌝ }
     requires { ⌜ Line s (q .own) q ⌝ }
-    ensures { λ r. ⌜ LineAnswered s (labels (now (samples .entry))) (now (cuts .entry)) q r ⌝ }
+    ensures { λ r. ⌜ LineAnswered s (signs (now (samples .entry))) (now (cuts .entry)) q r ⌝ }
 {
     if quiet::is_quiet_line(s, samples, cuts, q) {
         return Fault::Fine;
@@ -65,7 +65,7 @@ fn line_fault(s: Sizes, samples: &[i16], cuts: &[u8], q: Site) -> Fault
 // The lowest byte at fault.
 pub fn first_cut(s: Sizes, samples: &[i16], cuts: &[u8]) -> Fault
     requires { ⌜ Tabled (blockOf s (now samples) (now cuts)) ⌝ }
-    ensures { λ r. ⌜ CutAnswer s (labels (now (samples .entry))) (now (cuts .entry)) r ⌝ }
+    ensures { λ r. ⌜ CutAnswer s (signs (now (samples .entry))) (now (cuts .entry)) r ⌝ }
 {
     let n = counts::point_count(s);
     let mut q = numbers::locate(s, 0);

@@ -14,7 +14,7 @@ ghost use lib.ListN.{length, getD};
 ghost use Rattle.lattice.specs.Counts.{Sized};
 ghost use Rattle.lattice.specs.inner.Site.{Sited, most};
 ghost use Rattle.moving.specs.Block.{blockOf, Tabled};
-ghost use Rattle.moving.specs.Label.{labels};
+ghost use Rattle.moving.specs.Label.{signs};
 ghost use Rattle.ground.specs.inner.Lines.{Line};
 ghost use Rattle.ground.specs.inner.Strides.{endsAt, rangeMost};
 ghost use Rattle.checks.specs.inner.Faults.{Asked, PointFine, LineFine};
@@ -24,7 +24,7 @@ ghost use Rattle.checks.specs.inner.Glance.{Calm, Covers, Level};
 fn is_calm(samples: &[i16], own: usize, ends: [usize; 7]) -> bool
     requires { ⌜ (own < length (now samples)) × (length (now samples) ≤ most) ⌝ }
     requires { ⌜ ((d : ℕ) → d < 7 → getD ends d 0 < length (now samples)) ⌝ }
-    ensures { λ r. ⌜ (r ≡ true → Calm (labels (now (samples .entry))) own ends) ⌝ }
+    ensures { λ r. ⌜ (r ≡ true → Calm (signs (now (samples .entry))) own ends) ⌝ }
 {
     for d in 0..7 {
         let far = ends[d];
@@ -40,7 +40,7 @@ fn is_calm(samples: &[i16], own: usize, ends: [usize; 7]) -> bool
 pub fn is_quiet(s: Sizes, samples: &[i16], bytes: &[u8], q: Site) -> bool
     requires { ⌜ Asked s (now samples) q ⌝ }
     requires { ⌜ length (now bytes) ≡ 7 ⌝ }
-    ensures { λ r. ⌜ (r ≡ true → PointFine s (labels (now (samples .entry))) (now (bytes .entry)) q) ⌝ }
+    ensures { λ r. ⌜ (r ≡ true → PointFine s (signs (now (samples .entry))) (now (bytes .entry)) q) ⌝ }
 {
     let far = strides::ahead(s, q);
     if far[2] < samples.len() {
@@ -72,7 +72,7 @@ fn is_level(plus: bool, samples: &[i16], starts: [usize; 5], m: usize) -> bool
 {
     for k in 0..5 {
         let from = starts[k];
-        if ranges::has_some(plus, samples, from, from + m + 1) {
+        if ranges::has_some(plus, points::RAW, samples, from, from + m + 1) {
             return false;
         }
     }
@@ -84,7 +84,7 @@ fn is_level(plus: bool, samples: &[i16], starts: [usize; 5], m: usize) -> bool
 pub fn is_quiet_line(s: Sizes, samples: &[i16], cuts: &[u8], q: Site) -> bool
     requires { ⌜ Tabled (blockOf s (now samples) (now cuts)) ⌝ }
     requires { ⌜ Line s (q .own) q ⌝ }
-    ensures { λ r. ⌜ (r ≡ true → LineFine s (labels (now (samples .entry))) (now (cuts .entry)) q) ⌝ }
+    ensures { λ r. ⌜ (r ≡ true → LineFine s (signs (now (samples .entry))) (now (cuts .entry)) q) ⌝ }
 {
     let kind = q.kind;
     let own = q.own;

@@ -16,7 +16,7 @@ ghost use Rattle.lattice.specs.Axis.{along-x, along-y, along-z};
 ghost use Rattle.lattice.specs.Counts.{Sized, grid, points};
 ghost use Rattle.lattice.specs.Rim.{outermost};
 ghost use Rattle.lattice.specs.inner.Site.{most};
-ghost use Rattle.moving.specs.Label.{labels, isPlus};
+ghost use Rattle.moving.specs.Label.{signs, isPlus};
 ghost use Rattle.filling.specs.Check.{rimFault, firstRim};
 ghost use Rattle.ground.specs.inner.Lines.{Line};
 ghost use Rattle.checks.specs.inner.Search.{FirstIn};
@@ -38,7 +38,7 @@ fn is_outer(s: Sizes, q: Site) -> bool
 // The first point above zero from one point on and before another.
 fn first_plus(samples: &[i16], from: usize, to: usize) -> usize
     requires { ⌜ (from ≤ to) × (to ≤ length (now samples)) × (length (now samples) ≤ most) ⌝ }
-    ensures { λ r. ⌜ FirstIn (λ (p : ℕ). isPlus (labels (now (samples .entry)) p)) from to r ⌝ }
+    ensures { λ r. ⌜ FirstIn (λ (p : ℕ). isPlus (signs (now (samples .entry)) p)) from to r ⌝ }
 {
     for p in from..to {
         if points::is_plus(samples, p) {
@@ -53,7 +53,7 @@ fn line_rim(s: Sizes, samples: &[i16], q: Site) -> usize
     requires { ⌜ Sized s ⌝ }
     requires { ⌜ length (now samples) ≡ points s ⌝ }
     requires { ⌜ Line s (q .own) q ⌝ }
-    ensures { λ r. ⌜ FirstIn (rimFault s (labels (now (samples .entry)))) (q .own) (q .own + grid s (q .kind) along-x) r ⌝ }
+    ensures { λ r. ⌜ FirstIn (rimFault s (signs (now (samples .entry)))) (q .own) (q .own + grid s (q .kind) along-x) r ⌝ }
 {
     let kind = q.kind;
     let own = q.own;
@@ -75,7 +75,7 @@ fn line_rim(s: Sizes, samples: &[i16], q: Site) -> usize
 pub fn first_rim(s: Sizes, samples: &[i16]) -> usize
     requires { ⌜ Sized s ⌝ }
     requires { ⌜ length (now samples) ≡ points s ⌝ }
-    ensures { λ r. ⌜ r ≡ firstRim s (labels (now (samples .entry))) ⌝ }
+    ensures { λ r. ⌜ r ≡ firstRim s (signs (now (samples .entry))) ⌝ }
 {
     let n = counts::point_count(s);
     let mut q = numbers::locate(s, 0);

@@ -1,6 +1,6 @@
 -- Document 02, F-3: labels by a band and raw signs. Assumes nothing.
 --     label-in, label-out, zero-in   a label is zero exactly if the sample's size is at most the band; any other is its sign
---     label-raw, labels-raw          by the band 0 it is always the sign
+--     label-raw, labels-raw, opposed-raw   by the band 0 it is always the sign
 --     plus-sign, opposed-signs       so whatever is plus by a band is above zero, and opposed labels are opposed signs
 --     in-band-rests                  a point in the band never moves
 --     fits-banded, banded-fits       the test of the band
@@ -71,6 +71,9 @@ label-raw (pos n) =
 pub labels-raw : (samples : List ℤ) → labels 0 samples ≡ signs samples
 unfolding labels signs
 labels-raw samples = λ i p. label-raw (getD samples p (pos 0)) i
+
+pub opposed-raw : (a b : ℤ) → opposed (labelOf 0 a) (labelOf 0 b) ≡ opposed (signOf a) (signOf b)
+opposed-raw a b = λ i. opposed (label-raw a i) (label-raw b i)
 
 pub opposed-signs : (band : ℕ) (a b : ℤ) → T (opposed (labelOf band a) (labelOf band b)) → T (opposed (signOf a) (signOf b))
 unfolding opposed isPlus isMinus

@@ -19,12 +19,12 @@ pub faded-moved : (label : ℕ → Label) (codes : List ℕ) (p : ℕ) → (getD
 unfolding isZero
 faded-moved label codes p n = sym (ap isZero (label-moved label codes p n))
 
-pub faded-sample : (samples : List ℤ) (codes : List ℕ) (p : ℕ) → getD codes p 0 ≡ 0 → mag (getD samples p (pos 0)) < 2 ^ 15
-    → isZero (labelOf (toZ w16 (ofZ w16 (getD samples p (pos 0))))) ≡ isZero (labelAfter (labels samples) codes p)
+pub faded-sample : (band : ℕ) (samples : List ℤ) (codes : List ℕ) (p : ℕ) → getD codes p 0 ≡ 0 → mag (getD samples p (pos 0)) < 2 ^ 15
+    → isZero (labelOf band (toZ w16 (ofZ w16 (getD samples p (pos 0))))) ≡ isZero (labelAfter (labels band samples) codes p)
 unfolding labels
-faded-sample samples codes p e h =
-    ap (λ (z : ℤ). isZero (labelOf z)) (handed (getD samples p (pos 0)) h)
-    ∙ sym (ap isZero (label-still (labels samples) codes p e))
+faded-sample band samples codes p e h =
+    ap (λ (z : ℤ). isZero (labelOf band z)) (handed (getD samples p (pos 0)) h)
+    ∙ sym (ap isZero (label-still (labels band samples) codes p e))
 
 -- a cut is live if neither end's label is zero
 module _ (label : ℕ → Label) (codes : List ℕ) (p q : ℕ) where

@@ -27,41 +27,48 @@ ghost use Rattle.filling.specs.Fill.{movedCount};
 ghost use Rattle.ground.specs.inner.Lines.{Line};
 ghost use Rattle.warp.specs.inner.Quick.{liveAlong, deadAlong, byByte};
 
-// A point's label is zero: it has moved, or its sample is zero.
-fn is_faded(samples: &[i16], state: &[u8], p: usize) -> bool
+// A point's label is zero: it has moved, or its sample is in the band.
+fn is_faded(band: u32, samples: &[i16], state: &[u8], p: usize) -> bool
     requires { ⌜ (p < length (now samples)) × (p < length (now state)) ⌝ }
-    ensures { λ r. ⌜ r ≡ isZero (labelAfter (labels (now (samples .entry))) (now (state .entry)) p) ⌝ }
+    ensures { λ r. ⌜ r ≡ isZero (labelAfter (labels band (now (samples .entry))) (now (state .entry)) p) ⌝ }
 {
     if state[p] != 0 {
         return true;
     }
-    signs::is_zero(samples[p])
+    signs::is_zero(band, samples[p])
 }
 
 // A cut between p and q is live: neither label is zero.
-fn is_live(samples: &[i16], state: &[u8], p: usize, q: usize) -> bool
+fn is_live(band: u32, samples: &[i16], state: &[u8], p: usize, q: usize) -> bool
     requires { ⌜ (p < length (now samples)) × (p < length (now state)) ⌝ }
     requires { ⌜ (q < length (now samples)) × (q < length (now state)) ⌝ }
-    ensures { λ r. ⌜ r ≡ live (labels (now (samples .entry))) (now (state .entry)) p q ⌝ }
+    ensures { λ r. ⌜ r ≡ live (labels band (now (samples .entry))) (now (state .entry)) p q ⌝ }
 {
-    if is_faded(samples, state, p) {
+    if is_faded(band, samples, state, p) {
         return false;
     }
-    !is_faded(samples, state, q)
+    !is_faded(band, samples, state, q)
 }
 
 // The edge from a point by a code exists, and its cut is live.
-fn is_live_by(s: Sizes, samples: &[i16], state: &[u8], q: Site, code: usize) -> bool
+fn is_live_by(
+    s: Sizes,
+    band: u32,
+    samples: &[i16],
+    state: &[u8],
+    q: Site,
+    code: usize,
+) -> bool
     requires { ⌜ Sized s ⌝ }
     requires { ⌜ (length (now samples) ≡ points s) × (length (now state) ≡ points s) ⌝ }
     requires { ⌜ Code code ⌝ }
     requires { ⌜ Sited s q ⌝ }
-    ensures { λ r. ⌜ r ≡ liveAlong (labels (now (samples .entry))) (now (state .entry)) (q .own) (neighbour s (q .own) code) ⌝ }
+    ensures { λ r. ⌜ r ≡ liveAlong (labels band (now (samples .entry))) (now (state .entry)) (q .own) (neighbour s (q .own) code) ⌝ }
 {
     let far = edges::neighbour(s, q, code);
     match far {
         Near::Nothing => false,
-        Near::At(e) => is_live(samples, state, q.own, e),
+        Near::At(e) => is_live(band, samples, state, q.own, e),
     }
 }
 
@@ -83,28 +90,35 @@ fn nearest_byte(cuts: &[u8], at: [usize; 14]) -> usize
 }
 
 // A code is given, and its cut is not live.
-fn is_dead(s: Sizes, samples: &[i16], state: &[u8], q: Site, code: usize) -> bool
+fn is_dead(s: Sizes, band: u32, samples: &[i16], state: &[u8], q: Site, code: usize) -> bool
     requires { ⌜ Sized s ⌝ }
     requires { ⌜ (length (now samples) ≡ points s) × (length (now state) ≡ points s) ⌝ }
     requires { ⌜ code ≤ 14 ⌝ }
     requires { ⌜ Sited s q ⌝ }
-    ensures { λ r. ⌜ r ≡ deadAlong (labels (now (samples .entry))) (now (state .entry)) (q .own) code (neighbour s (q .own) code) ⌝ }
+    ensures { λ r. ⌜ r ≡ deadAlong (labels band (now (samples .entry))) (now (state .entry)) (q .own) code (neighbour s (q .own) code) ⌝ }
 {
     if code == 0 {
         return false;
     }
-    !is_live_by(s, samples, state, q, code)
+    !is_live_by(s, band, samples, state, q, code)
 }
 
 // The points of a line take their turns. Mostly the nearest cut by the bytes is live, or there is
 // none; else the search of a point goes through all codes and keeps the nearest whose cut is live.
 // The answer counts the points that move.
-fn warp_line(s: Sizes, samples: &[i16], cuts: &[u8], state: &mut [u8], q: Site) -> usize
+fn warp_line(
+    s: Sizes,
+    band: u32,
+    samples: &[i16],
+    cuts: &[u8],
+    state: &mut [u8],
+    q: Site,
+) -> usize
     requires { ⌜ Tabled (blockOf s (now samples) (now cuts)) ⌝ }
     requires { ⌜ Line s (q .own) q ⌝ }
-    requires { ⌜ now state ≡ stateAt (readingOf (blockOf s (now samples) (now cuts))) (q .own) ⌝ }
+    requires { ⌜ now state ≡ stateAt (readingOf band (blockOf s (now samples) (now cuts))) (q .own) ⌝ }
     ensures { λ r. ⌜ now (state .exit)
-        ≡ stateAt (readingOf (blockOf s (now (samples .entry)) (now (cuts .entry)))) (q .own + grid s (q .kind) along-x) ⌝ }
+        ≡ stateAt (readingOf band (blockOf s (now (samples .entry)) (now (cuts .entry)))) (q .own + grid s (q .kind) along-x) ⌝ }
     ensures { λ r. ⌜ r + movedCount (now (state .entry)) ≡ movedCount (now (state .exit)) ⌝ }
 {
     let kind = q.kind;
@@ -118,14 +132,14 @@ fn warp_line(s: Sizes, samples: &[i16], cuts: &[u8], state: &mut [u8], q: Site) 
         let mut found = nearest_byte(cuts, at);
         let mut best = Violation::No;
         let mut first: usize = 15;
-        if is_dead(s, samples, state, here, found) {
+        if is_dead(s, band, samples, state, here, found) {
             found = 0;
             first = 1;
         }
         for code in first..15 {
             let v = violation::violation(code, bytes::cut_at(cuts, at[code - 1]));
             if violation::is_nearer(v, best) {
-                if is_live_by(s, samples, state, here, code) {
+                if is_live_by(s, band, samples, state, here, code) {
                     best = v;
                     found = code;
                 }
@@ -150,11 +164,11 @@ fn clear(state: &mut [u8])
 
 // Points are taken once each, in ascending number, a line at a time, and move in place. Most lines
 // are far from any cut. The answer counts the points that move.
-pub fn warp(s: Sizes, samples: &[i16], cuts: &[u8], state: &mut [u8]) -> usize
+pub fn warp(s: Sizes, band: u32, samples: &[i16], cuts: &[u8], state: &mut [u8]) -> usize
     requires { ⌜ Tabled (blockOf s (now samples) (now cuts)) ⌝ }
     requires { ⌜ length (now state) ≡ points s ⌝ }
-    ensures { λ r. ⌜ now (state .exit) ≡ stateOf (readingOf (blockOf s (now (samples .entry)) (now (cuts .entry)))) ⌝ }
-    ensures { λ r. ⌜ r ≡ movedCount (stateOf (readingOf (blockOf s (now (samples .entry)) (now (cuts .entry))))) ⌝ }
+    ensures { λ r. ⌜ now (state .exit) ≡ stateOf (readingOf band (blockOf s (now (samples .entry)) (now (cuts .entry)))) ⌝ }
+    ensures { λ r. ⌜ r ≡ movedCount (stateOf (readingOf band (blockOf s (now (samples .entry)) (now (cuts .entry))))) ⌝ }
 {
     clear(state);
     let n = counts::point_count(s);
@@ -163,7 +177,7 @@ pub fn warp(s: Sizes, samples: &[i16], cuts: &[u8], state: &mut [u8]) -> usize
     let mut p = 0;
     while p < n {
         if !bytes::is_bare_line(s, cuts, q) {
-            moved += warp_line(s, samples, cuts, state, q);
+            moved += warp_line(s, band, samples, cuts, state, q);
         }
         let kind = q.kind;
         p += walk::line_length(s, kind);

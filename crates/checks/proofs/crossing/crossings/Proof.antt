@@ -4,13 +4,13 @@ use native.Mathlib.Omega.{arith}
 use mathlib.Core.Path.{refl, ap}
 use mathlib.Core.List.{List}
 use lib.ListN.{getD}
-use Rattle.moving.specs.Label.{labels}
+use Rattle.moving.specs.Label.{signs}
 use Rattle.checks.proofs.Edges.{Marked, marked-more, marked}
 use Rattle.checks.proofs.crossing.crossings.Statement.{statement}
 use Rattle.checks.proofs.crossing.crossings.Tie as tie
 
 abbrev Inv-loop : tie.InvT-loop
-Inv-loop s samples q far outer must₀ d₀ must d = (d ≤ 7) × Marked s (labels samples) (q .own) must d
+Inv-loop s samples q far outer must₀ d₀ must d = (d ≤ 7) × Marked s (signs samples) (q .own) must d
 
 abbrev μ-loop : tie.MeasureT-loop
 μ-loop s samples q far outer must₀ d₀ must d = 7 - d

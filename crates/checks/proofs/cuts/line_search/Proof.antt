@@ -3,7 +3,7 @@ use Prim.Native.Nat.{_+_, _*_, _-_, _≤_}
 use native.Mathlib.Omega.{arith}
 use lib.ListN.{length-take, length-drop}
 use Rattle.lattice.proofs.Sites.{numbers-small}
-use Rattle.moving.specs.Label.{labels}
+use Rattle.moving.specs.Label.{signs}
 use Rattle.filling.specs.Check.{cutFault}
 use Rattle.ground.proofs.Points.{sited}
 use Rattle.ground.proofs.Lines.{line-stands}
@@ -19,7 +19,7 @@ use Rattle.checks.proofs.cuts.line_search.Tie as tie
 
 abbrev Inv-loop : tie.InvT-loop
 Inv-loop s samples cuts q own m x₀ x =
-    Room s own m × (x ≤ m) × Throughout (cutFault s (labels samples) cuts) 0 (7 * own) (7 * (own + x))
+    Room s own m × (x ≤ m) × Throughout (cutFault s (signs samples) cuts) 0 (7 * own) (7 * (own + x))
 
 abbrev μ-loop : tie.MeasureT-loop
 μ-loop s samples cuts q own m x₀ x = m - x

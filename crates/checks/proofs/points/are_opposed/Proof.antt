@@ -1,6 +1,7 @@
 -- The samples that were read are those that are there. Assumes nothing.
 use mathlib.Core.Path.{_∙_}
-use Rattle.moving.specs.Label.{labels}
+use Rattle.moving.specs.Label.{signs}
+use Rattle.moving.proofs.Band.{opposed-raw}
 use Rattle.ground.proofs.Labels.{opposed-handed}
 use borrow.Author.Needs.{needs}
 use Rattle.checks.proofs.points.are_opposed.Statement.{statement}
@@ -22,8 +23,11 @@ opposite-requires : tie.Need-opposite-requires
 opposite-requires c κs = search needs
 
 returns : tie.Need-returns
-unfolding labels
-returns c = c .opposite .ensures ∙ opposed-handed _ _ (c .before .before .opposite-arg .given) (c .before .opposite-arg2 .given)
+unfolding signs
+returns c =
+    c .opposite .ensures
+    ∙ opposed-handed 0 _ _ (c .before .before .opposite-arg .given) (c .before .opposite-arg2 .given)
+    ∙ opposed-raw _ _
 
 pub are-opposed-spec : {M : Type 1} → statement M
 are-opposed-spec =

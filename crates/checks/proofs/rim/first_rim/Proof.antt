@@ -3,7 +3,7 @@ use Prim.Native.Nat.{_-_}
 use native.Mathlib.Omega.{arith}
 use mathlib.Core.Path.{_∙_}
 use mathlib.Core.Bool.{false}
-use Rattle.moving.specs.Label.{labels}
+use Rattle.moving.specs.Label.{signs}
 use Rattle.filling.specs.Check.{rimFault}
 use Rattle.ground.specs.inner.Lines.{Line}
 use Rattle.ground.proofs.Points.{points-some}
@@ -15,7 +15,7 @@ use Rattle.checks.proofs.rim.first_rim.Statement.{statement}
 use Rattle.checks.proofs.rim.first_rim.Tie as tie
 
 abbrev Inv-loop : tie.InvT-loop
-Inv-loop s samples n q₀ q = Line s (q .own) q × Throughout (rimFault s (labels samples)) false 0 (q .own)
+Inv-loop s samples n q₀ q = Line s (q .own) q × Throughout (rimFault s (signs samples)) false 0 (q .own)
 
 abbrev μ-loop : tie.MeasureT-loop
 μ-loop s samples n q₀ q = n - q .own

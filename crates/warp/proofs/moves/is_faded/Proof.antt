@@ -21,7 +21,7 @@ is-zero-requires : tie.Need-is-zero-requires
 is-zero-requires c κs = search needs
 
 returns-2 : tie.Need-returns-2
-returns-2 c = c .is-zero .ensures ∙ faded-sample _ _ _ (c .before .before .if1 .left) (c .before .is-zero-arg .given)
+returns-2 c = c .is-zero .ensures ∙ faded-sample _ _ _ _ (c .before .before .if1 .left) (c .before .is-zero-arg .given)
 
 pub is-faded-spec : {M : Type 1} → statement M
 is-faded-spec =

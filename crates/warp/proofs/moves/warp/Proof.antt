@@ -27,10 +27,10 @@ use Rattle.warp.proofs.moves.warp.Statement.{statement}
 use Rattle.warp.proofs.moves.warp.Tie as tie
 
 abbrev Inv-loop : tie.InvT-loop
-Inv-loop s samples cuts state₀ n q₀ moved₀ p₀ state q moved p = Warped (readingOf (blockOf s samples cuts)) n state q moved p
+Inv-loop s band samples cuts state₀ n q₀ moved₀ p₀ state q moved p = Warped (readingOf band (blockOf s samples cuts)) n state q moved p
 
 abbrev μ-loop : tie.MeasureT-loop
-μ-loop s samples cuts state₀ n q₀ moved₀ p₀ state q moved p = n - p
+μ-loop s band samples cuts state₀ n q₀ moved₀ p₀ state q moved p = n - p
 
 clear-requires : tie.Need-clear-requires Inv-loop μ-loop
 clear-requires c κs = search needs

@@ -48,17 +48,17 @@ use Rattle.warp.proofs.moves.warp_line.Statement.{statement}
 use Rattle.warp.proofs.moves.warp_line.Tie as tie
 
 abbrev Inv-loop2 : tie.InvT-loop2
-Inv-loop2 s samples cuts state q own m moved x p here at found₀ best₀ first code₀ found best code =
-    Searching (violationBy (readingOf (blockOf s samples cuts)) state p) found best code
+Inv-loop2 s band samples cuts state q own m moved x p here at found₀ best₀ first code₀ found best code =
+    Searching (violationBy (readingOf band (blockOf s samples cuts)) state p) found best code
 
 abbrev μ-loop2 : tie.MeasureT-loop2
-μ-loop2 s samples cuts state q own m moved x p here at found₀ best₀ first code₀ found best code = 15 - code
+μ-loop2 s band samples cuts state q own m moved x p here at found₀ best₀ first code₀ found best code = 15 - code
 
 abbrev Inv-loop : tie.InvT-loop
-Inv-loop s samples cuts state₀ q own m moved₀ x₀ state moved x = Walked (readingOf (blockOf s samples cuts)) own m state₀ state moved x
+Inv-loop s band samples cuts state₀ q own m moved₀ x₀ state moved x = Walked (readingOf band (blockOf s samples cuts)) own m state₀ state moved x
 
 abbrev μ-loop : tie.MeasureT-loop
-μ-loop s samples cuts state₀ q own m moved₀ x₀ state moved x = m - x
+μ-loop s band samples cuts state₀ q own m moved₀ x₀ state moved x = m - x
 
 line-length-requires : tie.Need-line-length-requires Inv-loop2 μ-loop2 Inv-loop μ-loop
 line-length-requires c κs = c .before .before .pre .0 .sized
@@ -115,7 +115,7 @@ loop2-holds c =
     let at-length = at-along .before .before .before in
     let at-start = at-length .before .before .before in
     let a = at-start .args in
-    let m = readingOf (blockOf (a .s) (a .samples .now) (a .cuts .now)) in
+    let m = readingOf (a .band) (blockOf (a .s) (a .samples .now) (a .cuts .now)) in
     let line = at-start .pre .1 .0 in
     let len = at-length .line-length .ensures .0 in
     let own = along-own line (omega arith) (at-along .along .ensures) in
@@ -173,7 +173,7 @@ loop2-again c =
     let at-length = at-along .before .before .before in
     let at-start = at-length .before .before .before in
     let a = at-start .args in
-    let m = readingOf (blockOf (a .s) (a .samples .now) (a .cuts .now)) in
+    let m = readingOf (a .band) (blockOf (a .s) (a .samples .now) (a .cuts .now)) in
     let line = at-start .pre .1 .0 in
     let len = at-length .line-length .ensures .0 in
     let i = at-search .loop2 .inv in
