@@ -13,11 +13,11 @@ use Rattle.emit.specs.declared.Cube.{Cube}
 use Rattle.emit.specs.inner.Cubes.{Light, plusAt, plusCount}
 use Rattle.emit.specs.inner.Passes.{movedCube, KnownRun}
 
--- a line of samples none of which is above zero
-pub light-line : (samples : List ℤ) (from count : ℕ)
-    → ((p : ℕ) → from ≤ p → p < from + count → hasSign true (getD samples p (pos 0)) ≡ false) → Light (labels samples) from count
+-- a line of samples none of which is above the band
+pub light-line : (band : ℕ) (samples : List ℤ) (from count : ℕ)
+    → ((p : ℕ) → from ≤ p → p < from + count → hasSign true band (getD samples p (pos 0)) ≡ false) → Light (labels band samples) from count
 unfolding hasSign plusAt labels
-light-line samples from count h x l = simp (h (from + x) (omega arith) (omega (arith, l)))
+light-line band samples from count h x l = simp (h (from + x) (omega arith) (omega (arith, l)))
 
 -- the six lines of points of cubes side by side
 module _ (label : ℕ → Label) (step : Cube) (corner centre count : ℕ) where

@@ -18,13 +18,13 @@ use Rattle.rows.specs.inner.Picks.{weight}
 use Rattle.emit.specs.inner.Cubes.{plusAt}
 
 -- a sample that is handed to the code of the tests keeps its label
-pub handed-label : (x : ℤ) → SFits w16 x → labelOf (toZ w16 (ofZ w16 x)) ≡ labelOf x
-handed-label x f = ap labelOf (toZ-ofZ w16 x f)
+pub handed-label : (band : ℕ) (x : ℤ) → SFits w16 x → labelOf band (toZ w16 (ofZ w16 x)) ≡ labelOf band x
+handed-label band x f = ap (labelOf band) (toZ-ofZ w16 x f)
 
-pub handed-at : (samples : List ℤ) (p : ℕ) → mag (getD samples p (pos 0)) < 2 ^ 15
-    → labelOf (toZ w16 (ofZ w16 (getD samples p (pos 0)))) ≡ labels samples p
+pub handed-at : (band : ℕ) (samples : List ℤ) (p : ℕ) → mag (getD samples p (pos 0)) < 2 ^ 15
+    → labelOf band (toZ w16 (ofZ w16 (getD samples p (pos 0)))) ≡ labels band samples p
 unfolding labels
-handed-at samples p h = handed-label (getD samples p (pos 0)) (record { sfits = h })
+handed-at band samples p h = handed-label band (getD samples p (pos 0)) (record { sfits = h })
 
 -- the weight of a label by the two tests of its sample
 pub weight-plus : (l : Label) → isPlus l ≡ true → 5 ≡ weight l

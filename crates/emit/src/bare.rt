@@ -10,39 +10,46 @@ ghost use Rattle.rows.specs.inner.Corners.{most};
 ghost use Rattle.emit.specs.inner.Cubes.{Light, plusCount};
 ghost use Rattle.emit.specs.inner.Passes.{movedCube, KnownRun};
 
-// A line of so many points from one on, which is so far from another, has a sample above zero.
-fn has_plus(samples: &[i16], base: usize, stride: usize, count: usize) -> bool
+// A line of so many points from one on, which is so far from another, has a sample above the band.
+fn has_plus(band: u32, samples: &[i16], base: usize, stride: usize, count: usize) -> bool
     requires { ⌜ (base + stride + count ≤ length (now samples)) × (length (now samples) ≤ most) ⌝ }
-    ensures { λ r. ⌜ (r ≡ false → Light (labels (now (samples .entry))) (base + stride) count) ⌝ }
+    ensures { λ r. ⌜ (r ≡ false → Light (labels band (now (samples .entry))) (base + stride) count) ⌝ }
 {
     let from = base + stride;
-    ranges::has_some(true, samples, from, from + count)
+    ranges::has_some(true, band, samples, from, from + count)
 }
 
-// None of the points of so many cubes side by side along x has a sample above zero.
-pub fn is_bare_run(samples: &[i16], step: Cube, corner: usize, centre: usize, count: usize) -> bool
+// None of the points of so many cubes side by side along x has a sample above the band.
+pub fn is_bare_run(
+    band: u32,
+    samples: &[i16],
+    step: Cube,
+    corner: usize,
+    centre: usize,
+    count: usize,
+) -> bool
     requires { ⌜ length (now samples) ≤ most ⌝ }
     requires { ⌜ KnownRun (length (now samples)) step corner centre count ⌝ }
     ensures { λ r. ⌜ (r ≡ true → (x : ℕ) → x < count
-        → plusCount (labels (now (samples .entry))) (movedCube step (corner + x) (centre + x)) ≡ 0) ⌝ }
+        → plusCount (labels band (now (samples .entry))) (movedCube step (corner + x) (centre + x)) ≡ 0) ⌝ }
 {
     if count == 0 {
         return true;
     }
-    if has_plus(samples, centre, step.low, count) {
+    if has_plus(band, samples, centre, step.low, count) {
         return false;
     }
-    if has_plus(samples, centre, step.high, count) {
+    if has_plus(band, samples, centre, step.high, count) {
         return false;
     }
-    if has_plus(samples, corner, step.mm, count) {
+    if has_plus(band, samples, corner, step.mm, count) {
         return false;
     }
-    if has_plus(samples, corner, step.pm, count) {
+    if has_plus(band, samples, corner, step.pm, count) {
         return false;
     }
-    if has_plus(samples, corner, step.pp, count) {
+    if has_plus(band, samples, corner, step.pp, count) {
         return false;
     }
-    !has_plus(samples, corner, step.mp, count)
+    !has_plus(band, samples, corner, step.mp, count)
 }

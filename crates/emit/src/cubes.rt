@@ -24,45 +24,45 @@ ghost use Rattle.rows.specs.inner.Stencils.{rowsMost, Wrote};
 ghost use Rattle.emit.specs.inner.Cubes.{cubeWeights, windsWith, quarterOf, quarterWeights, KnownCube, SmallCube, plusAt, plusCount};
 ghost use Rattle.emit.specs.inner.Cubes.{unmoved, solidCube, cubeCount, edgeIds, cubeIds, cubeMost, Room};
 
-// The weight of a sample's sign.
-fn weight_of(x: i16) -> usize
-    ensures { λ r. ⌜ r ≡ weight (labelOf x) ⌝ }
+// The weight of a sample's label by the band.
+fn weight_of(band: u32, x: i16) -> usize
+    ensures { λ r. ⌜ r ≡ weight (labelOf band x) ⌝ }
     ensures { λ r. ⌜ r ≤ plusWeight ⌝ }
 {
-    if signs::is_plus(x) {
+    if signs::is_plus(band, x) {
         return picks::PLUS;
     }
-    if signs::is_minus(x) {
+    if signs::is_minus(band, x) {
         return picks::MINUS;
     }
     picks::ZERO
 }
 
 // The weight of a point's label: zero once it has moved.
-fn weigh(samples: &[i16], state: &[u8], p: usize) -> usize
+fn weigh(band: u32, samples: &[i16], state: &[u8], p: usize) -> usize
     requires { ⌜ (p < length (now samples)) × (p < length (now state)) ⌝ }
-    ensures { λ r. ⌜ r ≡ weight (labelAfter (labels (now (samples .entry))) (now (state .entry)) p) ⌝ }
+    ensures { λ r. ⌜ r ≡ weight (labelAfter (labels band (now (samples .entry))) (now (state .entry)) p) ⌝ }
     ensures { λ r. ⌜ r ≤ plusWeight ⌝ }
 {
     if state[p] != 0 {
         return picks::ZERO;
     }
-    weight_of(samples[p])
+    weight_of(band, samples[p])
 }
 
 // The weights of the six points, each read once for all four tetrahedra.
-fn weigh_cube(samples: &[i16], state: &[u8], c: Cube) -> CubeWeights
+fn weigh_cube(band: u32, samples: &[i16], state: &[u8], c: Cube) -> CubeWeights
     requires { ⌜ KnownCube (length (now samples)) c ⌝ }
     requires { ⌜ length (now state) ≡ length (now samples) ⌝ }
-    ensures { λ r. ⌜ r ≡ cubeWeights (labelAfter (labels (now (samples .entry))) (now (state .entry))) c ⌝ }
+    ensures { λ r. ⌜ r ≡ cubeWeights (labelAfter (labels band (now (samples .entry))) (now (state .entry))) c ⌝ }
     ensures { λ r. ⌜ SmallCube r ⌝ }
 {
-    let low = weigh(samples, state, c.low);
-    let high = weigh(samples, state, c.high);
-    let mm = weigh(samples, state, c.mm);
-    let pm = weigh(samples, state, c.pm);
-    let pp = weigh(samples, state, c.pp);
-    let mp = weigh(samples, state, c.mp);
+    let low = weigh(band, samples, state, c.low);
+    let high = weigh(band, samples, state, c.high);
+    let mm = weigh(band, samples, state, c.mm);
+    let pm = weigh(band, samples, state, c.pm);
+    let pp = weigh(band, samples, state, c.pp);
+    let mp = weigh(band, samples, state, c.mp);
     CubeWeights {
         low,
         high,
@@ -210,23 +210,23 @@ fn winding(e: usize) -> bool
     }
 }
 
-// 1 for a sample above zero, 0 for any other.
-fn plus_at(samples: &[i16], p: usize) -> usize
+// 1 for a sample above the band, 0 for any other.
+fn plus_at(band: u32, samples: &[i16], p: usize) -> usize
     requires { ⌜ p < length (now samples) ⌝ }
-    ensures { λ r. ⌜ r ≡ plusAt (labels (now (samples .entry))) p ⌝ }
+    ensures { λ r. ⌜ r ≡ plusAt (labels band (now (samples .entry))) p ⌝ }
     ensures { λ r. ⌜ r ≤ 1 ⌝ }
 {
-    if signs::is_plus(samples[p]) { 1 } else { 0 }
+    if signs::is_plus(band, samples[p]) { 1 } else { 0 }
 }
 
-// How many of the six points have a sample above zero.
-fn count_plus(samples: &[i16], c: Cube) -> usize
+// How many of the six points have a sample above the band.
+fn count_plus(band: u32, samples: &[i16], c: Cube) -> usize
     requires { ⌜ KnownCube (length (now samples)) c ⌝ }
-    ensures { λ r. ⌜ r ≡ plusCount (labels (now (samples .entry))) c ⌝ }
+    ensures { λ r. ⌜ r ≡ plusCount (labels band (now (samples .entry))) c ⌝ }
 {
-    let centres = plus_at(samples, c.low) + plus_at(samples, c.high);
-    let front = plus_at(samples, c.mm) + plus_at(samples, c.pm);
-    let back = plus_at(samples, c.pp) + plus_at(samples, c.mp);
+    let centres = plus_at(band, samples, c.low) + plus_at(band, samples, c.high);
+    let front = plus_at(band, samples, c.mm) + plus_at(band, samples, c.pm);
+    let back = plus_at(band, samples, c.pp) + plus_at(band, samples, c.mp);
     centres + front + back
 }
 
@@ -291,6 +291,7 @@ fn write_mixed_cube(
     rows: &mut [u32],
     at: usize,
     n: usize,
+    band: u32,
     samples: &[i16],
     state: &[u8],
     c: Cube,
@@ -299,11 +300,11 @@ fn write_mixed_cube(
     requires { ⌜ (length (now samples) ≡ n) × (length (now state) ≡ n) ⌝ }
     requires { ⌜ KnownCube n c ⌝ }
     requires { ⌜ at + cubeMost ≤ rowsMost ⌝ }
-    requires { ⌜ Room (now rows) at (length (cubeIds n (labelAfter (labels (now samples)) (now state)) c)) ⌝ }
-    ensures { λ r. ⌜ Wrote (cubeIds n (labelAfter (labels (now (samples .entry))) (now (state .entry))) c)
+    requires { ⌜ Room (now rows) at (length (cubeIds n (labelAfter (labels band (now samples)) (now state)) c)) ⌝ }
+    ensures { λ r. ⌜ Wrote (cubeIds n (labelAfter (labels band (now (samples .entry))) (now (state .entry))) c)
         (now (rows .entry)) at (now (rows .exit)) r ⌝ }
 {
-    let w = weigh_cube(samples, state, c);
+    let w = weigh_cube(band, samples, state, c);
     if rows.len() == 0 {
         return at + 4 * count_cube(w);
     }
@@ -323,6 +324,7 @@ pub fn write_cube(
     rows: &mut [u32],
     at: usize,
     n: usize,
+    band: u32,
     samples: &[i16],
     state: &[u8],
     c: Cube,
@@ -331,11 +333,11 @@ pub fn write_cube(
     requires { ⌜ (length (now samples) ≡ n) × (length (now state) ≡ n) ⌝ }
     requires { ⌜ KnownCube n c ⌝ }
     requires { ⌜ at + cubeMost ≤ rowsMost ⌝ }
-    requires { ⌜ Room (now rows) at (length (cubeIds n (labelAfter (labels (now samples)) (now state)) c)) ⌝ }
-    ensures { λ r. ⌜ Wrote (cubeIds n (labelAfter (labels (now (samples .entry))) (now (state .entry))) c)
+    requires { ⌜ Room (now rows) at (length (cubeIds n (labelAfter (labels band (now samples)) (now state)) c)) ⌝ }
+    ensures { λ r. ⌜ Wrote (cubeIds n (labelAfter (labels band (now (samples .entry))) (now (state .entry))) c)
         (now (rows .entry)) at (now (rows .exit)) r ⌝ }
 {
-    let plus = count_plus(samples, c);
+    let plus = count_plus(band, samples, c);
     if plus == 0 {
         return at;
     }
@@ -344,5 +346,5 @@ pub fn write_cube(
             return write_solid_cube(rows, at, n, c);
         }
     }
-    write_mixed_cube(rows, at, n, samples, state, c)
+    write_mixed_cube(rows, at, n, band, samples, state, c)
 }

@@ -41,6 +41,7 @@ fn write_run(
     rows: &mut [u32],
     at: usize,
     n: usize,
+    band: u32,
     samples: &[i16],
     state: &[u8],
     step: Cube,
@@ -52,17 +53,17 @@ fn write_run(
     requires { ⌜ (length (now samples) ≡ n) × (length (now state) ≡ n) ⌝ }
     requires { ⌜ KnownRun n step corner centre count ⌝ }
     requires { ⌜ at + lineMost ≤ rowsMost ⌝ }
-    requires { ⌜ Room (now rows) at (length (runIds n (labelAfter (labels (now samples)) (now state)) step corner centre count)) ⌝ }
-    ensures { λ r. ⌜ Wrote (runIds n (labelAfter (labels (now (samples .entry))) (now (state .entry))) step corner centre count)
+    requires { ⌜ Room (now rows) at (length (runIds n (labelAfter (labels band (now samples)) (now state)) step corner centre count)) ⌝ }
+    ensures { λ r. ⌜ Wrote (runIds n (labelAfter (labels band (now (samples .entry))) (now (state .entry))) step corner centre count)
         (now (rows .entry)) at (now (rows .exit)) r ⌝ }
 {
-    if bare::is_bare_run(samples, step, corner, centre, count) {
+    if bare::is_bare_run(band, samples, step, corner, centre, count) {
         return at;
     }
     let mut to = at;
     for x in 0..count {
         let c = cube_at(step, corner + x, centre + x);
-        to = cubes::write_cube(rows, to, n, samples, state, c);
+        to = cubes::write_cube(rows, to, n, band, samples, state, c);
     }
     to
 }
@@ -71,6 +72,7 @@ fn write_run(
 fn write_line(
     rows: &mut [u32],
     at: usize,
+    band: u32,
     samples: &[i16],
     state: &[u8],
     p: Pass,
@@ -81,8 +83,8 @@ fn write_line(
     requires { ⌜ Tables p (now samples) (now state) ⌝ }
     requires { ⌜ (y < p .my) × (z < p .mz) ⌝ }
     requires { ⌜ at + lineMost ≤ rowsMost ⌝ }
-    requires { ⌜ Room (now rows) at (length (lineIds p (labelAfter (labels (now samples)) (now state)) z y)) ⌝ }
-    ensures { λ r. ⌜ Wrote (lineIds p (labelAfter (labels (now (samples .entry))) (now (state .entry))) z y)
+    requires { ⌜ Room (now rows) at (length (lineIds p (labelAfter (labels band (now samples)) (now state)) z y)) ⌝ }
+    ensures { λ r. ⌜ Wrote (lineIds p (labelAfter (labels band (now (samples .entry))) (now (state .entry))) z y)
         (now (rows .entry)) at (now (rows .exit)) r ⌝ }
 {
     let s = p.sizes;
@@ -90,13 +92,14 @@ fn write_line(
     let corner = numbers::linear(s.nx + 1, s.ny + 1, 0, y, z);
     let first = counts::corner_count(s);
     let centre = first + numbers::linear(s.nx, s.ny, 0, y, z);
-    write_run(rows, at, p.n, samples, state, step, corner, centre, p.mx)
+    write_run(rows, at, p.n, band, samples, state, step, corner, centre, p.mx)
 }
 
 // The lines of one layer.
 fn write_layer(
     rows: &mut [u32],
     at: usize,
+    band: u32,
     samples: &[i16],
     state: &[u8],
     p: Pass,
@@ -106,29 +109,36 @@ fn write_layer(
     requires { ⌜ Tables p (now samples) (now state) ⌝ }
     requires { ⌜ z < p .mz ⌝ }
     requires { ⌜ at + layerMost ≤ rowsMost ⌝ }
-    requires { ⌜ Room (now rows) at (length (layerIds p (labelAfter (labels (now samples)) (now state)) z)) ⌝ }
-    ensures { λ r. ⌜ Wrote (layerIds p (labelAfter (labels (now (samples .entry))) (now (state .entry))) z)
+    requires { ⌜ Room (now rows) at (length (layerIds p (labelAfter (labels band (now samples)) (now state)) z)) ⌝ }
+    ensures { λ r. ⌜ Wrote (layerIds p (labelAfter (labels band (now (samples .entry))) (now (state .entry))) z)
         (now (rows .entry)) at (now (rows .exit)) r ⌝ }
 {
     let mut to = at;
     for y in 0..p.my {
-        to = write_line(rows, to, samples, state, p, y, z);
+        to = write_line(rows, to, band, samples, state, p, y, z);
     }
     to
 }
 
 // The layers of one axis.
-fn write_pass(rows: &mut [u32], at: usize, samples: &[i16], state: &[u8], p: Pass) -> usize
+fn write_pass(
+    rows: &mut [u32],
+    at: usize,
+    band: u32,
+    samples: &[i16],
+    state: &[u8],
+    p: Pass,
+) -> usize
     requires { ⌜ InPass p ⌝ }
     requires { ⌜ Tables p (now samples) (now state) ⌝ }
     requires { ⌜ at + passMost ≤ rowsMost ⌝ }
-    requires { ⌜ Room (now rows) at (length (passIds p (labelAfter (labels (now samples)) (now state)))) ⌝ }
-    ensures { λ r. ⌜ Wrote (passIds p (labelAfter (labels (now (samples .entry))) (now (state .entry))))
+    requires { ⌜ Room (now rows) at (length (passIds p (labelAfter (labels band (now samples)) (now state)))) ⌝ }
+    ensures { λ r. ⌜ Wrote (passIds p (labelAfter (labels band (now (samples .entry))) (now (state .entry))))
         (now (rows .entry)) at (now (rows .exit)) r ⌝ }
 {
     let mut to = at;
     for z in 0..p.mz {
-        to = write_layer(rows, to, samples, state, p, z);
+        to = write_layer(rows, to, band, samples, state, p, z);
     }
     to
 }
@@ -196,40 +206,40 @@ fn pass_along(s: Sizes, n: usize, axis: usize) -> Pass
 }
 
 // All rows of a block, from the table's start on; the index after them.
-fn write_all(rows: &mut [u32], s: Sizes, samples: &[i16], state: &[u8]) -> usize
+fn write_all(rows: &mut [u32], s: Sizes, band: u32, samples: &[i16], state: &[u8]) -> usize
     requires { ⌜ Sized s ⌝ }
     requires { ⌜ (length (now samples) ≡ points s) × (length (now state) ≡ points s) ⌝ }
-    requires { ⌜ Room (now rows) 0 (length (blockIds s (labelAfter (labels (now samples)) (now state)))) ⌝ }
-    ensures { λ r. ⌜ Wrote (blockIds s (labelAfter (labels (now (samples .entry))) (now (state .entry))))
+    requires { ⌜ Room (now rows) 0 (length (blockIds s (labelAfter (labels band (now samples)) (now state)))) ⌝ }
+    ensures { λ r. ⌜ Wrote (blockIds s (labelAfter (labels band (now (samples .entry))) (now (state .entry))))
         (now (rows .entry)) 0 (now (rows .exit)) r ⌝ }
 {
     let n = counts::point_count(s);
     let along_x = pass_along(s, n, 0);
     let along_y = pass_along(s, n, 1);
     let along_z = pass_along(s, n, 2);
-    let x = write_pass(rows, 0, samples, state, along_x);
-    let y = write_pass(rows, x, samples, state, along_y);
-    write_pass(rows, y, samples, state, along_z)
+    let x = write_pass(rows, 0, band, samples, state, along_x);
+    let y = write_pass(rows, x, band, samples, state, along_y);
+    write_pass(rows, y, band, samples, state, along_z)
 }
 
 // How many rows a block has: they are written into an empty table, which only counts them.
-pub fn count_rows(s: Sizes, samples: &[i16], state: &[u8]) -> usize
+pub fn count_rows(s: Sizes, band: u32, samples: &[i16], state: &[u8]) -> usize
     requires { ⌜ Sized s ⌝ }
     requires { ⌜ (length (now samples) ≡ points s) × (length (now state) ≡ points s) ⌝ }
-    ensures { λ r. ⌜ r ≡ rowTotal s (labelAfter (labels (now (samples .entry))) (now (state .entry))) ⌝ }
+    ensures { λ r. ⌜ r ≡ rowTotal s (labelAfter (labels band (now (samples .entry))) (now (state .entry))) ⌝ }
 {
     let mut none = [0u32; 1];
-    let end = write_all(&mut none[..0], s, samples, state);
+    let end = write_all(&mut none[..0], s, band, samples, state);
     end / 4
 }
 
 // All rows of a block, written over the first entries of the row table.
-pub fn write_rows(s: Sizes, samples: &[i16], state: &[u8], rows: &mut [u32])
+pub fn write_rows(s: Sizes, band: u32, samples: &[i16], state: &[u8], rows: &mut [u32])
     requires { ⌜ Sized s ⌝ }
     requires { ⌜ (length (now samples) ≡ points s) × (length (now state) ≡ points s) ⌝ }
-    requires { ⌜ 4 * rowTotal s (labelAfter (labels (now samples)) (now state)) ≤ length (now rows) ⌝ }
-    ensures { λ _. ⌜ now (rows .exit) ≡ overwritten (signedTable s (labelAfter (labels (now (samples .entry))) (now (state .entry))))
+    requires { ⌜ 4 * rowTotal s (labelAfter (labels band (now samples)) (now state)) ≤ length (now rows) ⌝ }
+    ensures { λ _. ⌜ now (rows .exit) ≡ overwritten (signedTable s (labelAfter (labels band (now (samples .entry))) (now (state .entry))))
         (now (rows .entry)) ⌝ }
 {
-    write_all(rows, s, samples, state);
+    write_all(rows, s, band, samples, state);
 }

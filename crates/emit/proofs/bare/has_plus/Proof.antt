@@ -14,7 +14,7 @@ has-some-requires : tie.Need-has-some-requires
 has-some-requires c κs = search needs
 
 returns : tie.Need-returns
-returns c = λ e. light-line (c .before .args .samples .now) _ _ (c .has-some .ensures e)
+returns c = λ e. light-line _ (c .before .args .samples .now) _ _ (c .has-some .ensures e)
 
 pub has-plus-spec : {M : Type 1} → statement M
 has-plus-spec = tie.close (tie.spec add-from add-has-some has-some-requires returns)

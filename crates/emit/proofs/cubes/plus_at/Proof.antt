@@ -19,13 +19,13 @@ is-plus-requires c κs = search needs
 returns : tie.Need-returns
 returns c =
     let at-plus = c .before in
-    let same = handed-at _ _ (at-plus .before .is-plus-arg .given) in
+    let same = handed-at _ _ _ (at-plus .before .is-plus-arg .given) in
     (plus-one _ _ (sym (at-plus .is-plus .ensures ∙ ap isPlus same) ∙ c .if1 .taken), omega arith)
 
 returns-2 : tie.Need-returns-2
 returns-2 c =
     let at-plus = c .before in
-    let same = handed-at _ _ (at-plus .before .is-plus-arg .given) in
+    let same = handed-at _ _ _ (at-plus .before .is-plus-arg .given) in
     (plus-none _ _ (sym (at-plus .is-plus .ensures ∙ ap isPlus same) ∙ c .if1 .left), omega arith)
 
 pub plus-at-spec : {M : Type 1} → statement M

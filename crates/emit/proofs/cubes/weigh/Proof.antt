@@ -25,7 +25,7 @@ weight-of-requires c κs = search needs
 returns-2 : tie.Need-returns-2
 returns-2 c =
     let at-arg = c .before in
-    let same = handed-at _ _ (at-arg .weight-of-arg .given) in
+    let same = handed-at _ _ _ (at-arg .weight-of-arg .given) in
     (weight-still _ _ _ (at-arg .before .if1 .left) (c .weight-of .ensures .0 ∙ ap weight same), c .weight-of .ensures .1)
 
 pub weigh-spec : {M : Type 1} → statement M

@@ -13,7 +13,7 @@ is-plus-requires c κs = search needs
 returns : tie.Need-returns
 returns c =
     let at-plus = c .before in
-    let same = handed-label _ (at-plus .before .fits .x) in
+    let same = handed-label _ _ (at-plus .before .fits .x) in
     (weight-plus _ (sym (at-plus .is-plus .ensures ∙ ap isPlus same) ∙ c .if1 .taken), omega arith)
 
 is-minus-requires : tie.Need-is-minus-requires
@@ -22,7 +22,7 @@ is-minus-requires c κs = search needs
 returns-2 : tie.Need-returns-2
 returns-2 c =
     let at-minus = c .before in
-    let same = handed-label _ (at-minus .before .before .before .fits .x) in
+    let same = handed-label _ _ (at-minus .before .before .before .fits .x) in
     (weight-minus _ (sym (at-minus .is-minus .ensures ∙ ap isMinus same) ∙ c .if2 .taken), omega arith)
 
 returns-3 : tie.Need-returns-3
@@ -30,7 +30,7 @@ returns-3 c =
     let at-minus = c .before in
     let at-if = at-minus .before in
     let at-plus = at-if .before in
-    let same = handed-label _ (at-plus .before .fits .x) in (
+    let same = handed-label _ _ (at-plus .before .fits .x) in (
       weight-zero _ (sym (at-plus .is-plus .ensures ∙ ap isPlus same) ∙ at-if .if1 .left)
           (sym (at-minus .is-minus .ensures ∙ ap isMinus same) ∙ c .if2 .left),
       omega arith,

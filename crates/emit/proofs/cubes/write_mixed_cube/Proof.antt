@@ -11,10 +11,10 @@ use Rattle.emit.proofs.cubes.write_mixed_cube.Statement.{statement}
 use Rattle.emit.proofs.cubes.write_mixed_cube.Tie as tie
 
 abbrev Inv : tie.InvT-loop
-Inv rows₀ at n samples state c w to₀ e₀ rows to e = (e ≤ 4) × Written (edgeIds n c w) rows₀ at e rows to
+Inv rows₀ at n band samples state c w to₀ e₀ rows to e = (e ≤ 4) × Written (edgeIds n c w) rows₀ at e rows to
 
 abbrev μ : tie.MeasureT-loop
-μ rows₀ at n samples state c w to₀ e₀ rows to e = 4 - e
+μ rows₀ at n band samples state c w to₀ e₀ rows to e = 4 - e
 
 weigh-cube-requires : tie.Need-weigh-cube-requires Inv μ
 weigh-cube-requires c κs = let a = c .before .before .pre in (known-as (a .1 .0 .0) (a .1 .1 .0), omega (arith, a .1 .0))

@@ -11,10 +11,10 @@ use Rattle.emit.proofs.passes.write_pass.Statement.{statement}
 use Rattle.emit.proofs.passes.write_pass.Tie as tie
 
 abbrev Inv : tie.InvT-loop
-Inv rows₀ at samples state p to₀ z₀ end rows to z = (z ≤ p .mz) × Written (layerIds p (labelAfter (labels samples) state)) rows₀ at z rows to
+Inv rows₀ at band samples state p to₀ z₀ end rows to z = (z ≤ p .mz) × Written (layerIds p (labelAfter (labels band samples) state)) rows₀ at z rows to
 
 abbrev μ : tie.MeasureT-loop
-μ rows₀ at samples state p to₀ z₀ end rows to z = p .mz - z
+μ rows₀ at band samples state p to₀ z₀ end rows to z = p .mz - z
 
 loop-holds : tie.Need-loop-holds Inv μ
 loop-holds c = (omega arith, none-written _ _ _)

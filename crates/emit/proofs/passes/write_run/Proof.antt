@@ -12,11 +12,11 @@ use Rattle.emit.proofs.passes.write_run.Statement.{statement}
 use Rattle.emit.proofs.passes.write_run.Tie as tie
 
 abbrev Inv : tie.InvT-loop
-Inv rows₀ at n samples state step corner centre count to₀ x₀ rows to x =
-    (x ≤ count) × Written (placedIds n (labelAfter (labels samples) state) step corner centre) rows₀ at x rows to
+Inv rows₀ at n band samples state step corner centre count to₀ x₀ rows to x =
+    (x ≤ count) × Written (placedIds n (labelAfter (labels band samples) state) step corner centre) rows₀ at x rows to
 
 abbrev μ : tie.MeasureT-loop
-μ rows₀ at n samples state step corner centre count to₀ x₀ rows to x = count - x
+μ rows₀ at n band samples state step corner centre count to₀ x₀ rows to x = count - x
 
 is-bare-run-requires : tie.Need-is-bare-run-requires Inv μ
 is-bare-run-requires c κs = let p = c .before .before .pre in (omega (arith, p .0, p .1 .0 .0), run-as (p .1 .0 .0) (p .1 .1 .0))
