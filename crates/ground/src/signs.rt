@@ -1,8 +1,17 @@
 // Labels of samples by a band: the one place where the code makes a label of a sample. By the band 0
 // a label is the sample's own sign.
 ghost use mathlib.Core.Path.{_≡_};
-ghost use Rattle.moving.specs.Label.{labelOf, isPlus, isZero, isMinus, opposed};
+ghost use Rattle.moving.specs.Label.{labelOf, bandFits, isPlus, isZero, isMinus, opposed};
 ghost use Rattle.ground.specs.inner.Signs.{hasSign};
+
+const BAND_MOST: u32 = 32767;
+
+// A band that is taken.
+pub fn band_fits(band: u32) -> bool
+    ensures { λ r. ⌜ r ≡ bandFits band ⌝ }
+{
+    band <= BAND_MOST
+}
 
 pub fn is_plus(band: u32, a: i16) -> bool
     ensures { λ r. ⌜ r ≡ isPlus (labelOf band a) ⌝ }

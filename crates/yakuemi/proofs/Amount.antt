@@ -117,13 +117,13 @@ module _ (s : Sizes) (label : ℕ → Label) (place : ℕ → Place) where
   unfolding rowsOver
   rows-most = omega (arith, gather-most (rowsIn s label place) 3 (tetrahedraOf s) rows-in-most, listed-count s)
 
-pub long-enough-always : (b : Block) (state rows : List ℕ) → 12 * tetrahedra (b .sizes) ≤ length rows
-    → fill b state rows .answer .number ≡ 10 → ⊥
+pub long-enough-always : (band : ℕ) (b : Block) (state rows : List ℕ) → 12 * tetrahedra (b .sizes) ≤ length rows
+    → fill band b state rows .answer .number ≡ 10 → ⊥
 unfolding written
-long-enough-always b state rows h e =
-    let w = passed-all b state rows 10 (inr refl) e .is in
-    let m = readingOf b in
+long-enough-always band b state rows h e =
+    let w = passed-all band b state rows 10 (inr refl) e .is in
+    let m = readingOf band b in
     let most = rows-most (b .sizes) (labelAfter (m .label) (stateOf m)) (placeOf (b .sizes) (b .cuts) (stateOf m)) in
-    let fits = le-leb (4 * length (meshOf (readingOf b))) (length rows) (omega arith) in
+    let fits = le-leb (4 * length (meshOf (readingOf band b))) (length rows) (omega arith) in
     let z : _≡_ {A = ℕ} 0 10 = rw fits at (sym (ap (λ (o : Outcome). o .answer .number) w) ∙ e) in
     omega arith

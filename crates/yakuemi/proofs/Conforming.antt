@@ -9,9 +9,9 @@ use Rattle.filling.specs.Demand.{Conforms, OnSkin, rowsRead}
 use Rattle.conformity.proofs.Demand3.{demand-3-written}
 use Rattle.yakuemi.specs.inner.Fills.{Fills}
 
-pub conforming : (b : Block) (state rows : List ℕ) (r : Filled) (stateAfter rowsAfter : List ℕ)
-    → Fills b state rows r stateAfter rowsAfter → Bytes (b .cuts) → r .number ≡ 0
-    → Conforms (rowsRead rowsAfter (r .rows)) (placeOf (b .sizes) (b .cuts) stateAfter) (OnSkin (readingOf b))
-conforming b state rows r stateAfter rowsAfter f bytes e =
+pub conforming : (band : ℕ) (b : Block) (state rows : List ℕ) (r : Filled) (stateAfter rowsAfter : List ℕ)
+    → Fills band b state rows r stateAfter rowsAfter → Bytes (b .cuts) → r .number ≡ 0
+    → Conforms (rowsRead rowsAfter (r .rows)) (placeOf (b .sizes) (b .cuts) stateAfter) (OnSkin (readingOf band b))
+conforming band b state rows r stateAfter rowsAfter f bytes e =
     rw (f .rows-are, f .state-is, ap (λ (r : Filled). r .rows) (f .answer))
-    (demand-3-written b state rows bytes (sym (ap (λ (r : Filled). r .number) (f .answer)) ∙ e))
+    (demand-3-written band b state rows bytes (sym (ap (λ (r : Filled). r .number) (f .answer)) ∙ e))

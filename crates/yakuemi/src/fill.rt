@@ -11,32 +11,37 @@ ghost use Rattle.yakuemi.specs.Measures.{sizes};
 
 // Moves the points that sit too near the skin, each to the nearest cut, and writes the rows of a
 // block of nx by ny by nz cubes: N samples, 7N cut bytes, N state bytes and a row table, of any
-// content.
+// content. A sample whose size is at most the band counts as zero, so its point lies on the skin.
+//
+// Theorems: by the band 0 filling is what it was without one (`band-0`,
+// crates/filling/proofs/BandZero.antt); a point in the band never moves (`in-band-rests`,
+// crates/moving/proofs/Band.antt).
 #[no_mangle]
 pub extern "C" fn yakuemi_fill(
     nx: u32,
     ny: u32,
     nz: u32,
+    band: u32,
     samples: &[i16],
     cuts: &[u8],
     state: &mut [u8],
     rows: &mut [u32],
 ) -> Filled
     ensures answer { λ r. ⌜ r
-        ≡ fill (blockOf (sizes nx ny nz) (now (samples .entry)) (now (cuts .entry))) (now (state .entry)) (now (rows .entry)) .answer ⌝ }
+        ≡ fill band (blockOf (sizes nx ny nz) (now (samples .entry)) (now (cuts .entry))) (now (state .entry)) (now (rows .entry)) .answer ⌝ }
     ensures state { λ r. ⌜ now (state .exit)
-        ≡ fill (blockOf (sizes nx ny nz) (now (samples .entry)) (now (cuts .entry))) (now (state .entry)) (now (rows .entry)) .state ⌝ }
+        ≡ fill band (blockOf (sizes nx ny nz) (now (samples .entry)) (now (cuts .entry))) (now (state .entry)) (now (rows .entry)) .state ⌝ }
     ensures rows { λ r. ⌜ now (rows .exit)
-        ≡ fill (blockOf (sizes nx ny nz) (now (samples .entry)) (now (cuts .entry))) (now (state .entry)) (now (rows .entry)) .rows ⌝ }
+        ≡ fill band (blockOf (sizes nx ny nz) (now (samples .entry)) (now (cuts .entry))) (now (state .entry)) (now (rows .entry)) .rows ⌝ }
     ensures conforms { λ r. ⌜ (r .number ≡ 0
         → Conforms (rowsRead (now (rows .exit)) (r .rows))
         (placeOf (sizes nx ny nz) (now (cuts .entry)) (now (state .exit)))
-        (OnSkin (readingOf (blockOf (sizes nx ny nz) (now (samples .entry)) (now (cuts .entry)))))) ⌝ }
+        (OnSkin (readingOf band (blockOf (sizes nx ny nz) (now (samples .entry)) (now (cuts .entry)))))) ⌝ }
 {
     let s = Sizes {
         nx: nx as usize,
         ny: ny as usize,
         nz: nz as usize,
     };
-    steps::fill_sized(s, samples, cuts, state, rows)
+    steps::fill_sized(s, band, samples, cuts, state, rows)
 }

@@ -6,7 +6,7 @@ use Rattle.moving.specs.Block.{Block}
 use Rattle.filling.specs.declared.Filled.{Filled}
 use Rattle.filling.specs.Fill.{fill}
 
-pub record Fills (b : Block) (state rows : List ℕ) (r : Filled) (stateAfter rowsAfter : List ℕ) : Type 0 where
-  pub answer : r ≡ fill b state rows .answer
-  pub state-is : stateAfter ≡ fill b state rows .state
-  pub rows-are : rowsAfter ≡ fill b state rows .rows
+pub record Fills (band : ℕ) (b : Block) (state rows : List ℕ) (r : Filled) (stateAfter rowsAfter : List ℕ) : Type 0 where
+  pub answer : r ≡ fill band b state rows .answer
+  pub state-is : stateAfter ≡ fill band b state rows .state
+  pub rows-are : rowsAfter ≡ fill band b state rows .rows

@@ -22,7 +22,7 @@ returns c =
     let a = at-known .before .args in
     let f = at-fill .fill-sized .ensures in
     let b = blockOf (sizes (a .nx) (a .ny) (a .nz)) (a .samples .now) (a .cuts .now) in
-    let conforms = conforming b (a .state .now) (a .rows .now) _ _ _ f (λ o. at-known .shared-slice-known .given o .fits) in
+    let conforms = conforming (a .band) b (a .state .now) (a .rows .now) _ _ _ f (λ o. at-known .shared-slice-known .given o .fits) in
     (f .answer, (f .state-is, (f .rows-are, conforms)))
 
 pub yakuemi-fill-spec : {M : Type 1} → statement M

@@ -34,9 +34,9 @@ returns c =
     let a = at-start .args in
     let b = blockOf (a .s) (a .samples .now) (a .cuts .now) in
     let moved = at-warp .warp .ensures in
-    let counted = at-count .count-rows .ensures ∙ mesh-length (readingOf b) _ (moved .0) in
+    let counted = at-count .count-rows .ensures ∙ mesh-length (readingOf (a .band) b) _ (moved .0) in
     rw (c .answered .ensures)
-    (too-short b (a .state .now) (a .rows .now) (at-start .pre .0) (at-start .pre .1) _ _ _ counted (moved .1) (moved .0)
+    (too-short (a .band) b (a .state .now) (a .rows .now) (at-start .pre .0) (at-start .pre .1) _ _ _ counted (moved .1) (moved .0)
     (c .before .if1 .taken))
 
 write-rows-requires : tie.Need-write-rows-requires
@@ -61,15 +61,15 @@ returns-2 c =
     let at-start = at-known .before in
     let a = at-start .args in
     let b = blockOf (a .s) (a .samples .now) (a .cuts .now) in
-    let m = readingOf b in
+    let m = readingOf (a .band) b in
     let moved = at-warp .warp .ensures in
     let counted = at-count .count-rows .ensures ∙ mesh-length m _ (moved .0) in
     let bytes : Bytes (a .cuts .now) = λ o. at-known .shared-slice-known .given o .fits in
-    let is-sound = sound (stateOf m) (accepted-fits b (at-start .pre .0)) bytes limit-reach (state-reached m) in
+    let is-sound = sound (stateOf m) (accepted-fits (a .band) b (at-start .pre .0)) bytes limit-reach (state-reached m) in
     let rows = mesh-table m _ (moved .0) is-sound in
     let new = at-write .write-rows .ensures ∙ ap (λ (l : List ℕ). overwritten l (a .rows .now)) rows in
     rw (c .answered2 .ensures)
-    (long-enough b (a .state .now) (a .rows .now) (at-start .pre .0) (at-start .pre .1) _ _ _ counted (moved .1) (moved .0) _ new
+    (long-enough (a .band) b (a .state .now) (a .rows .now) (at-start .pre .0) (at-start .pre .1) _ _ _ counted (moved .1) (moved .0) _ new
     (at-test .if1 .left))
 
 pub fill-accepted-spec : {M : Type 1} → statement M

@@ -24,8 +24,9 @@ returns c =
     let at-count = at-rim .before in
     let at-start = at-count .before .before .before .before in
     let a = at-start .args in
+    let p = at-start .pre in
     let b = blockOf (a .s) (a .samples .now) (a .cuts .now) in
-    rim-refused b (a .state .now) (a .rows .now) (at-start .pre .0) (at-start .pre .1) (at-rim .first-rim .ensures)
+    rim-refused (a .band) b (a .state .now) (a .rows .now) (p .0) (p .1 .0) (p .1 .1) (at-rim .first-rim .ensures)
     (at-count .point-count .ensures) (c .before .if1 .taken) (c .refused .ensures)
 
 first-cut-requires : tie.Need-first-cut-requires
@@ -54,10 +55,11 @@ fill-accepted-requires c κs =
     let at-count = at-rim .before in
     let at-start = at-count .before .before .before .before in
     let a = at-start .args in
+    let p = at-start .pre in
     let b = blockOf (a .s) (a .samples .now) (a .cuts .now) in
-    let accepted = accept b (at-start .pre .0) (at-rim .first-rim .ensures) (at-count .point-count .ensures)
+    let accepted = accept (a .band) b (p .0) (p .1 .0) (at-rim .first-rim .ensures) (at-count .point-count .ensures)
     (at-cut .before .if1 .left) (at-cut .first-cut .ensures) (at-fault .enum-told .given .1) in
-    (accepted, at-start .pre .1)
+    (accepted, p .1 .1)
 
 returns-2 : tie.Need-returns-2
 returns-2 c =
@@ -67,9 +69,10 @@ returns-2 c =
     let at-count = at-rim .before in
     let at-start = at-count .before .before .before .before in
     let a = at-start .args in
+    let p = at-start .pre in
     let b = blockOf (a .s) (a .samples .now) (a .cuts .now) in
     let is = at-fault .fault .given .1 in
-    cut-refused b (a .state .now) (a .rows .now) (at-start .pre .0) (at-start .pre .1) (at-rim .first-rim .ensures)
+    cut-refused (a .band) b (a .state .now) (a .rows .now) (p .0) (p .1 .0) (p .1 .1) (at-rim .first-rim .ensures)
     (at-count .point-count .ensures) (at-cut .before .if1 .left) _ 5 _ (at-cut .first-cut .ensures) (ap numberOf is)
     (ap (placeOf (7 * points (a .s))) is) (c .refused2 .ensures)
 
@@ -81,9 +84,10 @@ returns-3 c =
     let at-count = at-rim .before in
     let at-start = at-count .before .before .before .before in
     let a = at-start .args in
+    let p = at-start .pre in
     let b = blockOf (a .s) (a .samples .now) (a .cuts .now) in
     let is = at-fault .fault2 .given .1 in
-    cut-refused b (a .state .now) (a .rows .now) (at-start .pre .0) (at-start .pre .1) (at-rim .first-rim .ensures)
+    cut-refused (a .band) b (a .state .now) (a .rows .now) (p .0) (p .1 .0) (p .1 .1) (at-rim .first-rim .ensures)
     (at-count .point-count .ensures) (at-cut .before .if1 .left) _ 6 _ (at-cut .first-cut .ensures) (ap numberOf is)
     (ap (placeOf (7 * points (a .s))) is) (c .refused3 .ensures)
 
