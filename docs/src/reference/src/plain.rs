@@ -2,9 +2,9 @@
 //!
 //! Follows document 01, "The block", "Moving points", "Lattice tetrahedra and
 //! rows" and "Calls and refusals" in their order, and in "Moving points"
-//! requests F-2 and F-3 of document 02. Every number is decoded, every tetrahedron
-//! listed, every corner sorted, every six-volume computed from the places of
-//! the moved points.
+//! requests F-2 and F-3 of document 02. Every number is decoded, every
+//! tetrahedron listed, every corner sorted, every six-volume computed from the
+//! places of the moved points.
 
 use crate::cut::{edge_of_code, place_of_cut, place_of_point, six_volume, violation, Place};
 use crate::fill::{Filled, LARGEST_BAND};
