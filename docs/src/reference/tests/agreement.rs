@@ -1,70 +1,22 @@
 //! The fast filling equals the plain one: on valid blocks with row tables too
 //! short, exact and too long, and on calls that must be refused. All lent
 //! tables are full of noise beforehand, and entries that must stay are looked
-//! at on their own.
+//! at on their own. Valid blocks of random sizes are filled at band 0 here, and
+//! with bands in `tests/band.rs`.
 
-use reference::damage::{Call, Damage, Outcome, DAMAGES};
-use reference::fill::fill;
-use reference::generate::{any_block, block, crowded_block, Cutting, CUTTINGS, MIXES};
-use reference::plain;
+mod both_fillings;
+
+use both_fillings::{check_valid, run_both};
+use reference::damage::{Call, Damage, DAMAGES};
+use reference::generate::{any_band, any_block, block, crowded_block, wide_band};
+use reference::generate::{Cutting, CUTTINGS, MIXES};
 use reference::random::Random;
-
-/// Makes the call with both fillings over the same noise.
-fn run_both(call: &Call, seed: u64) -> Outcome {
-    let fast = call.run(fill, &mut Random::new(seed));
-    let slow = call.run(plain::fill, &mut Random::new(seed));
-    assert_eq!(fast.filled, slow.filled, "seed {seed}");
-    assert!(fast == slow, "tables differ, seed {seed}");
-    check_untouched(call, &fast, seed);
-    fast
-}
-
-/// Entries that no row or code belongs in still hold the noise.
-fn check_untouched(call: &Call, outcome: &Outcome, seed: u64) {
-    let (state, rows) = call.noise(&mut Random::new(seed));
-    let filled = outcome.filled;
-    match filled.number {
-        0 => {
-            let behind = 4 * filled.rows as usize;
-            assert_eq!(rows[behind..], outcome.rows[behind..]);
-        }
-        10 => assert_eq!(rows, outcome.rows),
-        _ => {
-            assert_eq!(rows, outcome.rows);
-            assert_eq!(state, outcome.state);
-            assert_eq!((filled.rows, filled.moved), (0, 0));
-        }
-    }
-    if filled.number == 0 || filled.number == 10 {
-        let codes = outcome.state.iter().filter(|&&code| code != 0).count();
-        assert_eq!((filled.moved, filled.place), (codes as u64, 0));
-        assert!(outcome.state.iter().all(|&code| code <= 14));
-    }
-}
-
-/// Fills into an exact table, a longer and a shorter one.
-fn check_valid(call: &mut Call, random: &mut Random) {
-    let exact = call.row_length;
-    let outcome = run_both(call, random.bits());
-    assert_eq!(outcome.filled.number, 0);
-    assert_eq!(4 * outcome.filled.rows as usize, exact);
-    call.row_length = exact + random.pick(&[1, 3, 4, 17]);
-    assert_eq!(run_both(call, random.bits()).filled, outcome.filled);
-    if exact > 0 {
-        call.row_length = exact - 1;
-        let short = run_both(call, random.bits());
-        assert_eq!(short.filled.number, 10);
-        assert_eq!(short.filled.rows, outcome.filled.rows);
-        assert_eq!(short.filled.moved, outcome.filled.moved);
-        assert_eq!(short.state, outcome.state);
-    }
-}
 
 #[test]
 fn on_random_valid_blocks() {
     let mut random = Random::new(1);
     for _ in 0..3000 {
-        let mut call = Call::good(any_block(&mut random, 5), 0);
+        let mut call = Call::good(any_block(&mut random, 5), 0, 0);
         check_valid(&mut call, &mut random);
     }
 }
@@ -73,13 +25,13 @@ fn on_random_valid_blocks() {
 fn on_crowded_blocks() {
     let mut random = Random::new(8);
     for _ in 0..2000 {
-        let mut call = Call::good(crowded_block(&mut random, 5), 0);
+        let mut call = Call::good(crowded_block(&mut random, 5), 0, 0);
         check_valid(&mut call, &mut random);
     }
     for sizes in [[64, 4, 3], [3, 64, 4], [4, 3, 64]] {
         for mix in MIXES {
             let block = block(&mut random, sizes, mix, Cutting::Close);
-            check_valid(&mut Call::good(block, 0), &mut random);
+            check_valid(&mut Call::good(block, 0, 0), &mut random);
         }
     }
 }
@@ -92,7 +44,9 @@ fn on_every_size_up_to_three() {
         for mix in MIXES {
             for cutting in CUTTINGS {
                 let block = block(&mut random, sizes, mix, cutting);
-                check_valid(&mut Call::good(block, 0), &mut random);
+                for band in [0, wide_band(&mut random, &block)] {
+                    check_valid(&mut Call::good(block.clone(), band, 0), &mut random);
+                }
             }
         }
     }
@@ -112,9 +66,18 @@ fn on_long_blocks() {
         for mix in MIXES {
             let cutting = random.pick(&CUTTINGS);
             let block = block(&mut random, sizes, mix, cutting);
-            check_valid(&mut Call::good(block, 0), &mut random);
+            for band in [0, wide_band(&mut random, &block)] {
+                check_valid(&mut Call::good(block.clone(), band, 0), &mut random);
+            }
         }
     }
+}
+
+/// A call with any block and any band that is not refused.
+fn any_call(random: &mut Random, largest: u32) -> Call {
+    let block = any_block(random, largest);
+    let band = any_band(random, &block);
+    Call::good(block, band, 0)
 }
 
 #[test]
@@ -122,7 +85,7 @@ fn on_every_damage() {
     let mut random = Random::new(4);
     let mut done = [0; DAMAGES.len()];
     for n in 0..4000 {
-        let mut call = Call::good(any_block(&mut random, 5), 0);
+        let mut call = any_call(&mut random, 5);
         let lattice = call.block.lattice().unwrap();
         let damage = DAMAGES[n % DAMAGES.len()];
         if call.damage(&mut random, &lattice, damage) {
@@ -137,9 +100,9 @@ fn on_every_damage() {
 #[test]
 fn on_several_damages_at_once() {
     let mut random = Random::new(5);
-    let mut seen = [0; 11];
+    let mut seen = [0; 15];
     for _ in 0..4000 {
-        let mut call = Call::good(any_block(&mut random, 4), 0);
+        let mut call = any_call(&mut random, 4);
         let lattice = call.block.lattice().unwrap();
         let first = random.below(DAMAGES.len());
         let mut done: Vec<Damage> = Vec::new();
@@ -157,7 +120,7 @@ fn on_several_damages_at_once() {
             [first, ..] => assert_eq!(number, first.refusal(), "{done:?}"),
         }
     }
-    for number in [0, 1, 2, 3, 4, 5, 6, 7, 10] {
+    for number in [0, 1, 2, 3, 4, 5, 6, 7, 10, 14] {
         assert!(seen[number] > 50, "{seen:?}");
     }
 }
@@ -166,7 +129,7 @@ fn on_several_damages_at_once() {
 fn lowest_of_many_wrong_bytes_and_rim_points() {
     let mut random = Random::new(6);
     for n in 0..1000 {
-        let mut call = Call::good(any_block(&mut random, 4), 0);
+        let mut call = any_call(&mut random, 4);
         let lattice = call.block.lattice().unwrap();
         for _ in 0..1 + random.below(6) {
             let damage = match n % 2 {
@@ -188,8 +151,9 @@ fn on_foreign_cut_tables() {
         let mix = random.pick(&MIXES);
         let other = random.pick(&MIXES);
         let cutting = random.pick(&CUTTINGS);
-        let mut call = Call::good(block(&mut random, sizes, mix, cutting), 0);
+        let mut call = Call::good(block(&mut random, sizes, mix, cutting), 0, 0);
         call.block.cuts = block(&mut random, sizes, other, cutting).cuts;
+        call.band = any_band(&mut random, &call.block);
         run_both(&call, random.bits());
     }
 }
