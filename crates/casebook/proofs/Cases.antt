@@ -4,6 +4,7 @@ use mathlib.Core.List.{map}
 use Rattle.casebook.specs.cases.Given.{laid, laidRuns, givenSamples, givenCuts, allEntered, changed}
 use Rattle.casebook.specs.cases.Cases.{cases, strange}
 use Rattle.casebook.specs.cases.Nearest.{nearest}
+use Rattle.casebook.specs.cases.Bands.{rodSamples, rod, bands}
 use Rattle.casebook.specs.cases.Result.{computed, expected, found, resultOf}
 use Rattle.casebook.proofs.Opened.{definitions}
 
@@ -19,3 +20,8 @@ strange-come-out = refl
 pub nearest-come-out : map computed nearest ≡ map expected nearest
 unfolding definitions laid laidRuns givenSamples givenCuts allEntered changed nearest computed expected found resultOf
 nearest-come-out = refl
+
+-- document 02, F-3
+pub bands-come-out : map computed bands ≡ map expected bands
+unfolding definitions laid laidRuns givenSamples givenCuts allEntered changed rodSamples rod bands computed expected found resultOf
+bands-come-out = refl

@@ -2,6 +2,7 @@ pub mod Lent
 pub mod Given
 pub mod Cases
 pub mod Nearest
+pub mod Bands
 pub mod Result
 pub mod Metric
 pub mod Millimetres

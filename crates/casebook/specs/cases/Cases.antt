@@ -1,14 +1,15 @@
--- Document 01, "Cases from the given case (P: to prove)": P1 to P12 and the two row tables, as one list of cases. A case is a change of the
--- given block, the length of the lent row table, and what must come out of filling. The theorem is `cases-come-out` in proofs/Cases.antt.
+-- Document 01, "Cases from the given case (P: to prove)": P1 to P12 and the two row tables, as one list of cases. A case is a band, a block,
+-- the length of the lent row table, and what must come out of filling. The theorem is `cases-come-out` in proofs/Cases.antt.
 use Prim.Native.Nat.{ℕ}
 use mathlib.Core.List.{List, [], _∷_}
 use lib.IntN.{ℤ, pos}
 use Rattle.basics.specs.cases.Table.{Entry, _:=_}
+use Rattle.moving.specs.Block.{Block}
 use Rattle.stencil.specs.Row.{Row, row}
 use Rattle.filling.specs.declared.Filled.{Filled}
 use Rattle.filling.specs.declared.Placed.{Placed}
 use Rattle.casebook.specs.cases.Lent.{State, as-lent, codes}
-use Rattle.casebook.specs.cases.Given.{Change, unchanged, byte-at, sample-at}
+use Rattle.casebook.specs.cases.Given.{Change, unchanged, byte-at, sample-at, changed}
 
 -- what a case says besides the answer and the tables: how many points and lattice tetrahedra there are, the first row as written with its
 -- six-volume, or what the place call answers for an id after filling, or after filling and with one entry of the state table set
@@ -19,14 +20,19 @@ pub data Claim : Type 0 where
   place-with : Entry → ℕ → Placed → Claim
 
 pub record Case : Type 0 where
-  pub change : Change
+  pub band : ℕ
+  pub block : Block
   pub numbers : ℕ
   pub answer : Filled
   pub state : State
   pub claims : List Claim
 
+-- any block with a band; and the given block with a change, without one
+abbrev pub banded : ℕ → Block → ℕ → Filled → State → List Claim → Case
+banded band b n a s cs = record { band = band; block = b; numbers = n; answer = a; state = s; claims = cs }
+
 abbrev pub case : Change → ℕ → Filled → State → List Claim → Case
-case c n a s cs = record { change = c; numbers = n; answer = a; state = s; claims = cs }
+case c = banded 0 (changed c)
 
 -- the answers: filled with T and M; 10 with T and M; another refusal with its place
 abbrev pub filled : ℕ → ℕ → Filled

@@ -58,7 +58,7 @@ recorded e =
       places = map (λ q. q .placed) (e .questions);
     }
 
--- by the definitions
+-- by the definitions, without a band
 unfoldable pub asked : Block → List ℕ → Question → Placed
 asked b state q = locate (b .sizes) (b .cuts) (entered (q .entry) state) (q .id)
 
@@ -68,4 +68,4 @@ answered b o qs = record { outcome = o; places = map (asked b (o .state)) qs }
 unfoldable pub defined : Example → Result
 defined e =
     let b = blockIn e in
-    answered b (fill b (lentState (e .stateLength)) (lentRows (e .rowsLength))) (e .questions)
+    answered b (fill 0 b (lentState (e .stateLength)) (lentRows (e .rowsLength))) (e .questions)

@@ -14,7 +14,6 @@ use Rattle.filling.specs.Mesh.{rowVolume}
 use Rattle.filling.specs.Fill.{Outcome, fill}
 use Rattle.filling.specs.Located.{locate}
 use Rattle.casebook.specs.cases.Lent.{lentState, lentRows, stateTable}
-use Rattle.casebook.specs.cases.Given.{givenSizes, changed}
 use Rattle.casebook.specs.cases.Cases.{Case, Claim, counts, first-row, place-of, place-with}
 
 pub record Result : Type 0 where
@@ -27,12 +26,12 @@ pub record Result : Type 0 where
 abbrev pub written : Filled → ℕ
 written a = if eqb (a .number) 0 then 4 * a .rows else 0
 
--- by document 01
+-- by the papers
 unfoldable pub expected : Case → Result
 expected c =
     record {
       answer = c .answer;
-      state = stateTable (points givenSizes) (c .state);
+      state = stateTable (points (c .block .sizes)) (c .state);
       untouched = lentRows (c .numbers - written (c .answer));
       claims = c .claims;
     }
@@ -59,5 +58,5 @@ module _ (b : Block) (o : Outcome) where
 
 unfoldable pub computed : Case → Result
 computed c =
-    let b = changed (c .change) in
-    resultOf b (fill b (lentState (points givenSizes)) (lentRows (c .numbers))) (c .claims)
+    let b = c .block in
+    resultOf b (fill (c .band) b (lentState (points (b .sizes))) (lentRows (c .numbers))) (c .claims)

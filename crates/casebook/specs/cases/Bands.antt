@@ -1,0 +1,64 @@
+-- Document 02, F-3: the given case with bands, and a rod of rubber that a point in the band splits. The theorem is `bands-come-out` in
+-- proofs/Cases.antt. T and M of the rod, and its first row, are what separate software gives.
+use Prim.Native.Nat.{ℕ, _*_, _/_, _%_}
+use mathlib.Core.List.{List, [], _∷_, map}
+use lib.IntN.{ℤ, pos, negℤ}
+use lib.ListN.{replicate, set}
+use Rattle.basics.specs.Choice.{if_then_else_}
+use Rattle.basics.specs.Lists.{below}
+use Rattle.basics.specs.cases.Table.{Entry, _:=_}
+use Rattle.lattice.specs.declared.Sizes.{Sizes}
+use Rattle.lattice.specs.Counts.{points}
+use Rattle.moving.specs.Label.{signs}
+use Rattle.moving.specs.Block.{Block, blockOf}
+use Rattle.stencil.specs.Row.{row}
+use Rattle.filling.specs.Check.{crosses}
+use Rattle.casebook.specs.cases.Lent.{as-lent, codes}
+use Rattle.casebook.specs.cases.Given.{unchanged, byte-at, sample-at, changed, allEntered}
+use Rattle.casebook.specs.cases.Cases.{Case, banded, Claim, first-row, place-of, filled, too-short, refused, at, nowhere}
+
+-- the corners inside 4 by 2 by 2 cubes are 21, 22 and 23, side by side along x
+abbrev rodSizes : Sizes
+rodSizes = record { nx = 4; ny = 2; nz = 2 }
+
+-- rubber at all three, thin at 22, and air elsewhere
+unfoldable pub rodSamples : List ℤ
+rodSamples = set (set (set (replicate (points rodSizes) (negℤ (pos 5))) 21 (pos 5)) 22 (pos 3)) 23 (pos 5)
+
+-- the skin halfway along every edge that crosses it, but for some bytes
+unfoldable pub rod : List Entry → Block
+rod changes =
+    blockOf rodSizes rodSamples
+    (allEntered changes
+    (map (λ o. if crosses rodSizes (signs rodSamples) (o / 7) (o % 7) then 128 else 0) (below (7 * points rodSizes))))
+
+unfoldable pub bands : List Case
+bands =
+    -- "Band 0 changes no answer"; and the sample of point 13, the one that is rubber, is 5
+    banded 0 (changed unchanged) 100 (filled 24 0) (codes []) (first-row (row 13 65 235 227) (pos 8388608) ∷ [])
+    ∷ banded 4 (changed unchanged) 100 (filled 24 0) (codes []) (first-row (row 13 65 235 227) (pos 8388608) ∷ [])
+    -- "A sample whose size is at most the band has label zero": no row is left, and no table is too short for none
+    ∷ banded 5 (changed unchanged) 0 (filled 0 0) (codes []) (place-of 13 (at 512 512 512) ∷ [])
+    ∷ banded 32767 (changed unchanged) 100 (filled 0 0) (codes []) []
+    -- "14 "band", the band is above 32767 .. it writes nothing"
+    ∷ banded 32768 (changed unchanged) 100 (refused 14 0) as-lent []
+    -- "a cut byte beside a zero label is simply not live": P2's cut moves point 13 while both its ends are outside the band. It keeps its place
+    ∷ banded 4 (changed (byte-at 91 63)) 100 (filled 0 1) (codes (13 := 1 ∷ [])) (place-of 13 (at 638 512 512) ∷ [])
+    ∷ banded 5 (changed (byte-at 91 63)) 100 (filled 0 0) (codes []) (place-of 13 (at 512 512 512) ∷ place-of 126 (at 638 512 512) ∷ [])
+    -- "The rim and cut-byte tests go on reading raw samples": P12, P10 and P11 in a band that takes in every sample
+    ∷ banded 5 (changed (sample-at 27 (pos 1))) 100 (refused 5 27) as-lent []
+    ∷ banded 5 (changed (byte-at 91 0)) 100 (refused 6 91) as-lent []
+    ∷ banded 5 (changed (byte-at 0 7)) 100 (refused 7 0) as-lent []
+    -- -32768 is in no band: point 14 stays in the air
+    ∷ banded 32767 (changed (sample-at 14 (negℤ (pos 32768)))) 100 (filled 0 0) (codes []) []
+    -- the rod is one body, and with 22 in the band two that meet in it alone: 24 rows each, as in the given case
+    ∷ banded 2 (rod []) 320 (filled 80 0) (codes []) (first-row (row 21 105 387 379) (pos 8388608) ∷ [])
+    ∷ banded 3 (rod []) 192 (filled 48 0) (codes []) (first-row (row 21 105 387 379) (pos 8388608) ∷ place-of 22 (at 1024 512 512) ∷ [])
+    ∷ banded 3 (rod []) 191 (too-short 48 0) (codes []) []
+    ∷ banded 5 (rod []) 0 (filled 0 0) (codes []) []
+    -- a cut that violates 22, and one that violates the point beyond it: in the band neither is live, and "a point in the band never moves"
+    ∷ banded 2 (rod (155 := 63 ∷ [])) 320 (filled 48 1) (codes (22 := 2 ∷ [])) (place-of 22 (at 1024 638 512) ∷ [])
+    ∷ banded 3 (rod (155 := 63 ∷ [])) 320 (filled 48 0) (codes []) (place-of 22 (at 1024 512 512) ∷ [])
+    ∷ banded 2 (rod (155 := 193 ∷ [])) 320 (filled 80 1) (codes (27 := 9 ∷ [])) (place-of 27 (at 1024 898 512) ∷ [])
+    ∷ banded 3 (rod (155 := 193 ∷ [])) 320 (filled 48 0) (codes []) (place-of 27 (at 1024 1024 512) ∷ [])
+    ∷ []
