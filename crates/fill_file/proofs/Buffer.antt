@@ -81,7 +81,7 @@ module _ (bytes : List ℕ) (samples : List ℤ) (cuts state rows : List ℕ) (l
   filled-ten z e =
       let s = readSizes reading in
       let w = limited benchLimit s (whole-readable bytes benchLimit samples cuts {r = reading} refl z .within) in
-      counted-ten s _ (long-enough-always _ _ rows (omega (arith, tetrahedra-within s w))) (rw (eq-eqb (reading .number) 0 z) at e)
+      counted-ten s _ (long-enough-always _ _ _ rows (omega (arith, tetrahedra-within s w))) (rw (eq-eqb (reading .number) 0 z) at e)
 
   refused-ten : (reading .number ≡ 0 → ⊥) → summary bytes samples cuts state rows .answer .number ≡ 10 → ⊥
   unfolding summary refusal

@@ -56,10 +56,10 @@ Is o a state rows = (a ≡ o .answer) × ((state ≡ o .state) × (rows ≡ o .r
 
 module _ (s : Sizes) (samples : List ℤ) (cuts state rows : List ℕ) {n k : ℕ} (p : n ≡ points s) (q : k ≡ min n (length state)) where
   pub filled-is : {f : Filled} {after rowsAfter : List ℕ} {a : Summary}
-      → Fills (blockOf s (take n samples) (take (7 * n) cuts)) (take k state) rows f after rowsAfter → a ≡ counted s f
+      → Fills 0 (blockOf s (take n samples) (take (7 * n) cuts)) (take k state) rows f after rowsAfter → a ≡ counted s f
       → Is (fillRead s samples cuts state rows) a (after ++ drop k state) rowsAfter
   unfolding fillRead
   filled-is {f} {after} {rowsAfter} w e = (e ∙ ap (counted s) (v .answer), (rw (kept state n q, p, ← (v .state-is)) refl, v .rows-are))
     where
-      v : Fills (blockOf s (take (points s) samples) (take (7 * points s) cuts)) (take (points s) state) rows f after rowsAfter
+      v : Fills 0 (blockOf s (take (points s) samples) (take (7 * points s) cuts)) (take (points s) state) rows f after rowsAfter
       v = rw (← p, ← (lent state n q)) w

@@ -36,7 +36,7 @@ fn least(a: usize, b: usize) -> usize
     if a < b { a } else { b }
 }
 
-// The measures of the block that was read, and its filling. A state table that is too short is
+// The measures of the block that was read, and its filling without a band. A state table that is too short is
 // lent as it is, and filling refuses it.
 fn fill_read(r: Read, samples: &[i16], cuts: &[u8], state: &mut [u8], rows: &mut [u32]) -> Summary
     requires { ⌜ Sized (readSizes r) ⌝ }
@@ -54,7 +54,16 @@ fn fill_read(r: Read, samples: &[i16], cuts: &[u8], state: &mut [u8], rows: &mut
     let n = m.points as usize;
     let k = least(n, state.len());
     let e = 7 * n;
-    let f = yakuemi::yakuemi_fill(nx, ny, nz, &samples[..n], &cuts[..e], &mut state[..k], rows);
+    let f = yakuemi::yakuemi_fill(
+        nx,
+        ny,
+        nz,
+        0,
+        &samples[..n],
+        &cuts[..e],
+        &mut state[..k],
+        rows,
+    );
     if f.number != 0 {
         return refused(f.number, f.place);
     }

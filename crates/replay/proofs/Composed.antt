@@ -51,7 +51,7 @@ block-is body l x y z = rw (x, y, z, part-is body (cutsAt l) (l .cuts)) refl
 module _ (head body : List ℕ) (l : Lengths) where
   pub replay-is : {samples : List ℤ} {state rows : List ℕ} → samples ≡ samplesFrom body 3 (l .samples)
       → state ≡ replicate (l .state) (byteAt head 28) → rows ≡ replicate (l .rows) (fourAt head 28)
-      → fill (blockWith body l samples) state rows ≡ replayed head body l
+      → fill 0 (blockWith body l samples) state rows ≡ replayed head body l
   unfolding replayed
   replay-is s t r = rw (s, t, r) refl
 

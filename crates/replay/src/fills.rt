@@ -49,21 +49,21 @@ fn lend(
     tables::lend_numbers(rows, numbers::four_at(head, 28) as u32);
 }
 
-// Fills the block of the sizes and cut bytes that the body holds.
+// Fills the block of the sizes and cut bytes that the body holds, without a band.
 fn refill(l: Lengths, body: &[u8], samples: &[i16], state: &mut [u8], rows: &mut [u32]) -> Filled
     requires { ⌜ stateAt l ≤ length (now body) ⌝ }
-    ensures { λ r. ⌜ r ≡ fill (blockWith (now (body .entry)) l (now (samples .entry))) (now (state .entry)) (now (rows .entry)) .answer ⌝ }
+    ensures { λ r. ⌜ r ≡ fill 0 (blockWith (now (body .entry)) l (now (samples .entry))) (now (state .entry)) (now (rows .entry)) .answer ⌝ }
     ensures { λ _. ⌜ now (state .exit)
-        ≡ fill (blockWith (now (body .entry)) l (now (samples .entry))) (now (state .entry)) (now (rows .entry)) .state ⌝ }
+        ≡ fill 0 (blockWith (now (body .entry)) l (now (samples .entry))) (now (state .entry)) (now (rows .entry)) .state ⌝ }
     ensures { λ _. ⌜ now (rows .exit)
-        ≡ fill (blockWith (now (body .entry)) l (now (samples .entry))) (now (state .entry)) (now (rows .entry)) .rows ⌝ }
+        ≡ fill 0 (blockWith (now (body .entry)) l (now (samples .entry))) (now (state .entry)) (now (rows .entry)) .rows ⌝ }
 {
     let first = 3 + 2 * l.samples;
     let end = first + l.cuts;
     let x = wide(body[0]);
     let y = wide(body[1]);
     let z = wide(body[2]);
-    yakuemi::yakuemi_fill(x, y, z, samples, &body[first..end], state, rows)
+    yakuemi::yakuemi_fill(x, y, z, 0, samples, &body[first..end], state, rows)
 }
 
 // Lends the tables as they were lent and fills the block.

@@ -42,11 +42,12 @@ pub record Outcome : Type 0 where
   pub state : List ℕ
   pub rows : List ℕ
 
--- a block that stands in the first entries of the tables is filled; the state table beyond its N entries stays untouched
+-- a block that stands in the first entries of the tables is filled; the state table beyond its N entries stays untouched. Document 02, F-3:
+-- "Band 0 changes no answer, and the programs use it"
 unfoldable pub fillRead : Sizes → List ℤ → List ℕ → List ℕ → List ℕ → Outcome
 fillRead s samples cuts state rows =
     let n = points s in
-    let f = fill (blockOf s (take n samples) (take (7 * n) cuts)) (take n state) rows in
+    let f = fill 0 (blockOf s (take n samples) (take (7 * n) cuts)) (take n state) rows in
     record { answer = counted s (f .answer); state = f .state ++ drop n state; rows = f .rows }
 
 -- "Order: under three bytes 11, 1, 12, 11, filling's"

@@ -50,10 +50,10 @@ unfoldable pub blockWith : List ℕ → Lengths → List ℤ → Block
 blockWith body l samples = blockOf (fileSizes body) samples (take (l .cuts) (drop (cutsAt l) body))
 
 module _ (head body : List ℕ) (l : Lengths) where
-  -- what filling answers and leaves in the tables, by its definition
+  -- what filling answers and leaves in the tables, by its definition; F-3: "Band 0 changes no answer, and the programs use it"
   unfoldable pub replayed : Outcome
   replayed =
-      fill (blockWith body l (samplesFrom body 3 (l .samples))) (replicate (l .state) (byteAt head 28)) (replicate (l .rows) (fourAt head 28))
+      fill 0 (blockWith body l (samplesFrom body 3 (l .samples))) (replicate (l .state) (byteAt head 28)) (replicate (l .rows) (fourAt head 28))
 
   -- a state table and a row table are those that the record states: its ids, and beyond them what the table was lent with
   unfoldable pub statedTables : List ℕ → List ℕ → Bool

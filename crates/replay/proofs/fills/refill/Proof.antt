@@ -63,7 +63,7 @@ returns c =
     let b = block-is (given .body .now) (given .l) {samples = given .samples .now}
     (at-x .wide .ensures) (at-y .wide2 .ensures) (at-z .wide3 .ensures)
     in
-    let o : Block → Outcome = λ k. fill k (given .state .now) (given .rows .now) in (
+    let o : Block → Outcome = λ k. fill 0 k (given .state .now) (given .rows .now) in (
       f .0 ∙ ap (λ (k : Block). o k .answer) b,
       (f .1 .0 ∙ ap (λ (k : Block). o k .state) b, f .1 .1 .0 ∙ ap (λ (k : Block). o k .rows) b),
     )
