@@ -129,7 +129,7 @@ fn runs_of(cuts: &[u8]) -> Vec<(usize, usize)> {
 pub struct Tables {
     /// The answer of filling.
     pub filled: Filled,
-    /// The state table, all zero after a refusal of 1 to 7.
+    /// The state table, all zero after a refusal of 1 to 7 or 14.
     pub state: Vec<u8>,
     /// The ids of the rows, four a row.
     pub rows: Vec<u32>,
@@ -137,14 +137,14 @@ pub struct Tables {
 
 /// Fills a block into fresh tables, the row table long enough for any block
 /// of its sizes.
-pub fn fill_block(block: &Block) -> Tables {
+pub fn fill_block(block: &Block, band: u32) -> Tables {
     let [nx, ny, nz] = block.sizes;
     let measures = measures(nx, ny, nz);
     let mut state = vec![0; measures.points as usize];
     // No tetrahedron has more than three rows.
     let mut rows = vec![0; 4 * 3 * measures.tetrahedra as usize];
     let (samples, cuts) = (&block.samples, &block.cuts);
-    let filled = fill(nx, ny, nz, samples, cuts, &mut state, &mut rows);
+    let filled = fill(nx, ny, nz, band, samples, cuts, &mut state, &mut rows);
     rows.truncate(4 * filled.rows as usize);
     Tables {
         filled,
@@ -153,7 +153,7 @@ pub fn fill_block(block: &Block) -> Tables {
     }
 }
 
-/// The bench program's whole output for a block file.
+/// The bench program's whole output for a block file. It uses band 0.
 pub fn bench_output(file: &[u8]) -> String {
     output(file, BENCH_SIZE)
 }
@@ -164,7 +164,7 @@ pub fn output(file: &[u8], largest: u32) -> String {
         Ok(block) => block,
         Err(number) => return format!("refused {number} 0\n"),
     };
-    let filled = fill_block(&block).filled;
+    let filled = fill_block(&block, 0).filled;
     if filled.number != refusal::NONE {
         return format!("refused {} {}\n", filled.number, filled.place);
     }

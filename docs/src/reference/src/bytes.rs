@@ -1,12 +1,16 @@
 //! Reading the inputs of the fast filling: labels, rim test, cut byte test.
 //!
 //! Follows document 01, "The block" (which bytes must be non-zero) and
-//! "Calls and refusals" (5, then the lowest byte that is a 6 or a 7).
+//! "Calls and refusals" (5, then the lowest byte that is a 6 or a 7), and
+//! request F-3 of document 02: a band makes labels zero, but "the rim and
+//! cut-byte tests go on reading raw samples". So both tests want the labels of
+//! band 0, which are the raw signs.
+//!
 //! Everything goes line by line; a line or a point whose bytes must all be
 //! zero is tested as a group. Since every cut byte is looked at here, every
 //! point is marked on the way with the nearest cut that violates it
-//! ([`crate::mark`]), and moving need only search where that cut is no longer
-//! live.
+//! ([`crate::mark`]), be it live or not, and moving need only search where that
+//! cut is not live.
 
 use crate::mark::{MARKS, UNMARKED};
 use crate::refusal;
@@ -28,13 +32,15 @@ pub struct WrongByte {
     pub offset: usize,
 }
 
-/// The labels of all points.
-pub fn read_labels(samples: &[i16]) -> Vec<u8> {
-    let label = |&sample: &i16| u8::from(sample > 0) * PLUS + u8::from(sample < 0) * MINUS;
-    samples.iter().map(label).collect()
+/// Reads the labels of all points: zero for a sample whose size is at most the
+/// band, which is 0 to 32767. So -32768 is never zero.
+pub fn read_labels(band: i16, samples: &[i16], labels: &mut Vec<u8>) {
+    let label = |&sample: &i16| u8::from(sample > band) * PLUS + u8::from(sample < -band) * MINUS;
+    labels.clear();
+    labels.extend(samples.iter().map(label));
 }
 
-/// The lowest rim point with label plus.
+/// The lowest rim point with a raw sign of plus.
 pub fn lowest_plus_on_rim(grids: &Grids, labels: &[u8]) -> Option<usize> {
     for line in grids.lines() {
         let own = &labels[line.first..line.first + line.count()];
@@ -53,8 +59,8 @@ pub fn lowest_plus_on_rim(grids: &Grids, labels: &[u8]) -> Option<usize> {
     None
 }
 
-/// Tests every cut byte and answers the marks of all points, or no marks at
-/// all if the block has no cuts.
+/// Tests every cut byte by the raw signs and answers the marks of all points,
+/// or no marks at all if the block has no cuts.
 pub fn test_cuts(grids: &Grids, labels: &[u8], cuts: &[u8]) -> Result<Vec<u32>, WrongByte> {
     let mut marks = Vec::new();
     for line in grids.lines() {

@@ -4,7 +4,8 @@
 //! claim about all T rows" on: every row has four different corners and a
 //! six-volume above zero, and every face lies in exactly two rows that wind it
 //! opposite ways, or in exactly one and then with its three corners on the
-//! skin. Nothing of how the rows came about is used, but which points the
+//! skin. On the skin are a cut point, a moved point and, by request F-3 of
+//! document 02, a point whose sample's size is at most the band. Nothing of how the rows came about is used, but which points the
 //! rules move is found anew and not read off the state table.
 
 use crate::block::Block;
@@ -31,7 +32,7 @@ struct Windings {
 }
 
 /// Checks demand 3 for the rows of an accepted block, or says what is wrong.
-pub fn check_mesh(block: &Block, state: &[u8], rows: &[u32]) -> Result<Faces, String> {
+pub fn check_mesh(block: &Block, band: u32, state: &[u8], rows: &[u32]) -> Result<Faces, String> {
     let mut faces: HashMap<[u32; 3], Windings> = HashMap::new();
     for row in rows.chunks(4) {
         let row: [u32; 4] = row.try_into().map_err(|_| "not whole rows")?;
@@ -44,7 +45,7 @@ pub fn check_mesh(block: &Block, state: &[u8], rows: &[u32]) -> Result<Faces, St
             windings.odd += usize::from(!even);
         }
     }
-    check_faces(block, &faces)
+    check_faces(block, band, &faces)
 }
 
 fn check_row(block: &Block, state: &[u8], row: [u32; 4]) -> Result<(), String> {
@@ -83,12 +84,17 @@ fn ascending(face: [u32; 3]) -> ([u32; 3], bool) {
     (key, inversions % 2 == 0)
 }
 
-fn check_faces(block: &Block, faces: &HashMap<[u32; 3], Windings>) -> Result<Faces, String> {
+fn check_faces(
+    block: &Block,
+    band: u32,
+    faces: &HashMap<[u32; 3], Windings>,
+) -> Result<Faces, String> {
     let lattice = block.lattice().ok_or("sizes")?;
-    let moved = move_points(&lattice, &block.samples, &block.cuts).codes;
+    let moved = move_points(&lattice, band, &block.samples, &block.cuts).codes;
+    let in_band = |sample: i16| i64::from(sample).abs() <= i64::from(band);
     let on_skin = |&id: &u32| {
         let id = id as usize;
-        id >= lattice.point_count() || moved[id] != 0 || block.samples[id] == 0
+        id >= lattice.point_count() || moved[id] != 0 || in_band(block.samples[id])
     };
     let mut count = Faces { inner: 0, skin: 0 };
     for (face, windings) in faces {
@@ -111,8 +117,8 @@ mod tests {
     #[test]
     fn finds_faults() {
         let block = Block::given_case();
-        let tables = fill_block(&block);
-        let check = |rows: &[u32]| check_mesh(&block, &tables.state, rows);
+        let tables = fill_block(&block, 0);
+        let check = |rows: &[u32]| check_mesh(&block, 0, &tables.state, rows);
         let faces = check(&tables.rows).unwrap();
         assert_eq!((faces.inner, faces.skin), (36, 24));
 

@@ -1,7 +1,7 @@
 //! Calls of filling that must be refused, and why.
 //!
-//! Each refusal of filling (document 01, "Calls and refusals": 1 to 7 and 10)
-//! has one kind of damage. Several damages can be done to one call, to see in
+//! Each refusal of filling (document 01, "Calls and refusals": 1 to 7 and 10;
+//! document 02, request F-3: 14) has one kind of damage. Several damages can be done to one call, to see in
 //! which order the refusals come.
 
 use crate::block::Block;
@@ -16,6 +16,8 @@ use crate::refusal;
 pub struct Call {
     /// Sizes, samples and cuts.
     pub block: Block,
+    /// The band.
+    pub band: u32,
     /// The length of the state table.
     pub state_length: usize,
     /// The length of the row table.
@@ -27,6 +29,8 @@ pub struct Call {
 pub enum Damage {
     /// A size is 0 or above 64.
     Size,
+    /// The band is above 32767.
+    Band,
     /// One sample too many or too few, or none at all.
     Samples,
     /// The same with the cut table.
@@ -45,8 +49,9 @@ pub enum Damage {
 
 /// All damages, in the order in which filling finds them; a gap and a stray
 /// byte are found in one go, the lower offset first.
-pub const DAMAGES: [Damage; 8] = [
+pub const DAMAGES: [Damage; 9] = [
     Damage::Size,
+    Damage::Band,
     Damage::Samples,
     Damage::Cuts,
     Damage::State,
@@ -61,6 +66,7 @@ impl Damage {
     pub fn refusal(self) -> u32 {
         match self {
             Damage::Size => refusal::SIZE,
+            Damage::Band => refusal::BAND,
             Damage::Samples => refusal::SAMPLES,
             Damage::Cuts => refusal::CUTS,
             Damage::State => refusal::STATE,
@@ -84,14 +90,15 @@ pub struct Outcome {
 }
 
 /// A filling: [`crate::fill::fill`] or [`crate::plain::fill`].
-pub type Filling = fn(u32, u32, u32, &[i16], &[u8], &mut [u8], &mut [u32]) -> Filled;
+pub type Filling = fn(u32, u32, u32, u32, &[i16], &[u8], &mut [u8], &mut [u32]) -> Filled;
 
 impl Call {
     /// A call that is not refused: the row table has `spare` numbers too many.
-    pub fn good(block: Block, spare: usize) -> Call {
+    pub fn good(block: Block, band: u32, spare: usize) -> Call {
         let state_length = block.samples.len();
         let mut call = Call {
             block,
+            band,
             state_length,
             row_length: 0,
         };
@@ -105,7 +112,8 @@ impl Call {
         let [nx, ny, nz] = self.block.sizes;
         let (mut state, mut rows) = self.noise(random);
         let (samples, cuts) = (&self.block.samples, &self.block.cuts);
-        let filled = filling(nx, ny, nz, samples, cuts, &mut state, &mut rows);
+        let band = self.band;
+        let filled = filling(nx, ny, nz, band, samples, cuts, &mut state, &mut rows);
         Outcome {
             filled,
             state,
@@ -128,6 +136,9 @@ impl Call {
             Damage::Size => {
                 let bad = random.pick(&[0, 65, 66, 255, 256, 1 << 16, u32::MAX]);
                 self.block.sizes[random.below(3)] = bad;
+            }
+            Damage::Band => {
+                self.band = random.pick(&[32768, 32769, 65535, 65536, 1 << 31, u32::MAX]);
             }
             Damage::Samples => spoil_length(random, &mut self.block.samples, -1),
             Damage::Cuts => spoil_length(random, &mut self.block.cuts, 0),

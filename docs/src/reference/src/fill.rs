@@ -4,6 +4,10 @@
 //! modules [`crate::bytes`] (labels, rim, cut bytes), [`crate::warp`] (moving
 //! points) and [`crate::emit`] (rows). Besides the lent tables it uses two
 //! buffers: N label bytes and, if there are cuts, N marks of four bytes.
+//!
+//! The label bytes are read twice if there is a band (request F-3 of document
+//! 02): the raw signs for the rim and the cut bytes, then the labels. At band
+//! 0 the two are the same.
 
 use crate::bytes::{lowest_plus_on_rim, read_labels, test_cuts};
 use crate::emit::{count_rows, write_rows};
@@ -11,6 +15,9 @@ use crate::lattice::Lattice;
 use crate::refusal;
 use crate::strides::Grids;
 use crate::warp::move_points;
+
+/// The largest band.
+pub const LARGEST_BAND: u32 = 32767;
 
 /// The answer of filling.
 #[derive(Clone, Copy, Debug, PartialEq, Eq)]
@@ -26,7 +33,7 @@ pub struct Filled {
 }
 
 impl Filled {
-    /// The answer of refusals 1 to 7.
+    /// The answer of refusals 1 to 7 and 14.
     pub fn refused(number: u32, place: usize) -> Filled {
         Filled {
             number,
@@ -40,13 +47,17 @@ impl Filled {
 /// Fills a block: writes the state table, then four ids a row into the row
 /// table, and leaves the entries behind the last row alone.
 ///
-/// Refusals come in the order 1 to 5, then the lowest byte that is a 6 or a
-/// 7, then 10. Refusals 1 to 7 write nothing; after 10 the state table is
-/// filled and the row table untouched.
+/// A sample whose size is at most the band, 0 to 32767, has label zero.
+///
+/// Refusals come in the order 1, 14, 2 to 5, then the lowest byte that is a 6
+/// or a 7, then 10. Refusals 1 to 7 and 14 write nothing; after 10 the state
+/// table is filled and the row table untouched.
+#[allow(clippy::too_many_arguments)]
 pub fn fill(
     nx: u32,
     ny: u32,
     nz: u32,
+    band: u32,
     samples: &[i16],
     cuts: &[u8],
     state: &mut [u8],
@@ -55,6 +66,9 @@ pub fn fill(
     let Some(lattice) = Lattice::new(nx, ny, nz) else {
         return Filled::refused(refusal::SIZE, 0);
     };
+    if band > LARGEST_BAND {
+        return Filled::refused(refusal::BAND, 0);
+    }
     let n = lattice.point_count();
     if samples.len() != n {
         return Filled::refused(refusal::SAMPLES, 0);
@@ -66,7 +80,8 @@ pub fn fill(
         return Filled::refused(refusal::STATE, 0);
     }
     let grids = Grids::new(&lattice);
-    let mut labels = read_labels(samples);
+    let mut labels = Vec::new();
+    read_labels(0, samples, &mut labels);
     if let Some(point) = lowest_plus_on_rim(&grids, &labels) {
         return Filled::refused(refusal::RIM, point);
     }
@@ -74,6 +89,9 @@ pub fn fill(
         Ok(marks) => marks,
         Err(wrong) => return Filled::refused(wrong.number, wrong.offset),
     };
+    if band != 0 {
+        read_labels(band as i16, samples, &mut labels);
+    }
     let moved = move_points(&grids, &marks, &mut labels, cuts, state);
     let count = count_rows(&grids, &labels);
     let fits = rows.len() >= 4 * count;

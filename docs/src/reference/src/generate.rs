@@ -1,7 +1,9 @@
 //! Random valid blocks (document 01, "The block"), in several mixes of labels
-//! and with cut bytes often at the limits of violation.
+//! and with cut bytes often at the limits of violation; and random bands
+//! (document 02, request F-3).
 
 use crate::block::Block;
+use crate::fill::LARGEST_BAND;
 use crate::lattice::{Edge, Lattice};
 use crate::random::Random;
 
@@ -77,6 +79,50 @@ pub fn crowded_block(random: &mut Random, largest: u32) -> Block {
     block(random, sizes, mix, Cutting::Close)
 }
 
+/// A random valid block with sizes from 2 to `largest` whose samples are of
+/// very different sizes, many of them small or close to each other, and cuts
+/// of all kinds between any two of them.
+pub fn flickering_block(random: &mut Random, largest: u32) -> Block {
+    let sizes = [0; 3].map(|_| any_size(random, largest).max(2));
+    let mix = random.pick(&MIXES);
+    let cutting = random.pick(&[CUTTINGS.as_slice(), &[Cutting::Close]].concat());
+    let level = any_scale(random);
+    let sample = |random: &mut Random, label| flickering_sample(random, label, level);
+    block_of(random, sizes, mix, cutting, sample)
+}
+
+/// A random band, often one at which some sample of the block changes sides.
+pub fn any_band(random: &mut Random, block: &Block) -> u32 {
+    let size = i64::from(random.pick(&block.samples).unsigned_abs());
+    let largest = i64::from(LARGEST_BAND);
+    let band = match random.below(11) {
+        0 => 0,
+        1 => 1,
+        2 => random.between(2, 9),
+        3 | 4 => size,
+        5 => size - 1,
+        6 => size + 1,
+        7 => largest - 1,
+        8 => largest,
+        9 => any_scale(random),
+        _ => random.between(0, largest),
+    };
+    band.clamp(0, largest) as u32
+}
+
+/// A band that takes in 30 to 90 % of the block's points with a sample other
+/// than zero, and some more if several are of the same size; the points left
+/// over are rubber and air.
+pub fn wide_band(random: &mut Random, block: &Block) -> u32 {
+    let sizes = block.samples.iter().map(|s| u32::from(s.unsigned_abs()));
+    let mut sizes: Vec<u32> = sizes.filter(|&size| size != 0).collect();
+    sizes.sort();
+    let percent = random.between(30, 90) as usize;
+    let taken_in = (sizes.len() * percent).div_ceil(100);
+    let largest_taken_in = sizes[..taken_in].last().copied();
+    largest_taken_in.unwrap_or(0).min(LARGEST_BAND)
+}
+
 /// A random size; the larger of two, as small blocks are all rim.
 fn any_size(random: &mut Random, largest: u32) -> u32 {
     let draw = |random: &mut Random| random.between(1, i64::from(largest)) as u32;
@@ -85,8 +131,20 @@ fn any_size(random: &mut Random, largest: u32) -> u32 {
 
 /// A random valid block of these sizes, which must be allowed ones.
 pub fn block(random: &mut Random, sizes: [u32; 3], mix: Mix, cutting: Cutting) -> Block {
+    block_of(random, sizes, mix, cutting, random_sample)
+}
+
+/// The same; `sample` gives each sample from its label, above zero only if the
+/// label is.
+fn block_of(
+    random: &mut Random,
+    sizes: [u32; 3],
+    mix: Mix,
+    cutting: Cutting,
+    sample: impl Fn(&mut Random, i32) -> i16,
+) -> Block {
     let lattice = Lattice::new(sizes[0], sizes[1], sizes[2]).expect("allowed sizes");
-    let samples = random_samples(random, &lattice, mix);
+    let samples = random_samples(random, &lattice, mix, sample);
     let cuts = cuts_where_needed(&lattice, &samples, |_, _| random_cut(random, cutting));
     Block {
         sizes,
@@ -138,7 +196,12 @@ fn random_cut(random: &mut Random, cutting: Cutting) -> u8 {
     }
 }
 
-fn random_samples(random: &mut Random, lattice: &Lattice, mix: Mix) -> Vec<i16> {
+fn random_samples(
+    random: &mut Random,
+    lattice: &Lattice,
+    mix: Mix,
+    sample: impl Fn(&mut Random, i32) -> i16,
+) -> Vec<i16> {
     let shape = Shape::new(random, lattice);
     (0..lattice.point_count())
         .map(|point| {
@@ -146,7 +209,7 @@ fn random_samples(random: &mut Random, lattice: &Lattice, mix: Mix) -> Vec<i16> 
             if lattice.is_rim(point) && label > 0 {
                 label = random.pick(&[-1, -1, 0]);
             }
-            random_sample(random, label)
+            sample(random, label)
         })
         .collect()
 }
@@ -166,6 +229,26 @@ fn random_sample(random: &mut Random, label: i32) -> i16 {
         },
         _ => 0,
     }
+}
+
+/// A sample with this sign, or zero, of any size: at most 3, at most one from
+/// the block's level, an extreme one, or any other.
+fn flickering_sample(random: &mut Random, label: i32, level: i64) -> i16 {
+    let size = match random.below(8) {
+        0 | 1 => random.between(0, 3),
+        2 | 3 => level + random.between(-1, 1),
+        4 => random.between(32766, 32768),
+        5 => random.between(1, 32768),
+        _ => any_scale(random),
+    };
+    let sample = i64::from(label) * size;
+    sample.clamp(-32768, 32767) as i16
+}
+
+/// A number from 1 to 32768, of any order of magnitude.
+fn any_scale(random: &mut Random) -> i64 {
+    let scale = 1 << random.between(0, 15);
+    random.between(1, scale)
 }
 
 /// What ribs and balls look like in one block.

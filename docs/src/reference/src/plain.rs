@@ -2,12 +2,12 @@
 //!
 //! Follows document 01, "The block", "Moving points", "Lattice tetrahedra and
 //! rows" and "Calls and refusals" in their order, and in "Moving points"
-//! request F-2 of document 02. Every number is decoded, every tetrahedron
+//! requests F-2 and F-3 of document 02. Every number is decoded, every tetrahedron
 //! listed, every corner sorted, every six-volume computed from the places of
 //! the moved points.
 
 use crate::cut::{edge_of_code, place_of_cut, place_of_point, six_volume, violation, Place};
-use crate::fill::Filled;
+use crate::fill::{Filled, LARGEST_BAND};
 use crate::lattice::{Edge, Lattice};
 use crate::refusal;
 
@@ -30,10 +30,12 @@ pub struct Moved {
 }
 
 /// Fills a block; same contract as [`crate::fill::fill`].
+#[allow(clippy::too_many_arguments)]
 pub fn fill(
     nx: u32,
     ny: u32,
     nz: u32,
+    band: u32,
     samples: &[i16],
     cuts: &[u8],
     state: &mut [u8],
@@ -42,6 +44,9 @@ pub fn fill(
     let Some(lattice) = Lattice::new(nx, ny, nz) else {
         return Filled::refused(refusal::SIZE, 0);
     };
+    if band > LARGEST_BAND {
+        return Filled::refused(refusal::BAND, 0);
+    }
     let n = lattice.point_count();
     if samples.len() != n {
         return Filled::refused(refusal::SAMPLES, 0);
@@ -58,7 +63,7 @@ pub fn fill(
     if let Some((number, offset)) = lowest_wrong_byte(&lattice, samples, cuts) {
         return Filled::refused(number, offset);
     }
-    let moved = move_points(&lattice, samples, cuts);
+    let moved = move_points(&lattice, band, samples, cuts);
     state.copy_from_slice(&moved.codes);
     let ids = ids_of_rows(&lattice, cuts, &moved);
     let fits = ids.len() <= rows.len();
@@ -73,11 +78,13 @@ pub fn fill(
     }
 }
 
+/// The lowest rim point whose raw sample is above zero.
 fn lowest_plus_on_rim(lattice: &Lattice, samples: &[i16]) -> Option<usize> {
     (0..samples.len()).find(|&point| lattice.is_rim(point) && samples[point] > 0)
 }
 
-/// The lowest offset whose byte is a gap or a stray, with that refusal.
+/// The lowest offset whose byte is a gap or a stray by the raw samples, with
+/// that refusal.
 fn lowest_wrong_byte(lattice: &Lattice, samples: &[i16], cuts: &[u8]) -> Option<(u32, usize)> {
     for (offset, &byte) in cuts.iter().enumerate() {
         let (start, direction) = (offset / 7, offset % 7);
@@ -96,6 +103,18 @@ fn lowest_wrong_byte(lattice: &Lattice, samples: &[i16], cuts: &[u8]) -> Option<
         }
     }
     None
+}
+
+/// A point's label: its sample's sign, 1 plus, -1 minus, or 0. "A sample whose
+/// size is at most the band has label zero." The size of -32768 is 32,768,
+/// above every band.
+pub fn label(band: u32, sample: i16) -> i16 {
+    let size = u32::from(sample.unsigned_abs());
+    if size <= band {
+        0
+    } else {
+        sample.signum()
+    }
 }
 
 /// A live cut that violates a point at its turn.
@@ -124,13 +143,19 @@ pub fn first(violations: &[Violation]) -> Option<Violation> {
 
 /// Takes the points once each, in ascending number, and moves each non-zero
 /// one that a live cut violates to the nearest such cut.
-pub fn move_points(lattice: &Lattice, samples: &[i16], cuts: &[u8]) -> Moved {
-    move_points_by(nearest, lattice, samples, cuts)
+pub fn move_points(lattice: &Lattice, band: u32, samples: &[i16], cuts: &[u8]) -> Moved {
+    move_points_by(nearest, lattice, band, samples, cuts)
 }
 
 /// The same with any choice.
-pub fn move_points_by(choice: Choice, lattice: &Lattice, samples: &[i16], cuts: &[u8]) -> Moved {
-    let mut labels: Vec<i16> = samples.iter().map(|sample| sample.signum()).collect();
+pub fn move_points_by(
+    choice: Choice,
+    lattice: &Lattice,
+    band: u32,
+    samples: &[i16],
+    cuts: &[u8],
+) -> Moved {
+    let mut labels: Vec<i16> = samples.iter().map(|&s| label(band, s)).collect();
     let mut codes = vec![0; labels.len()];
     for point in 0..labels.len() {
         if labels[point] == 0 {

@@ -1,5 +1,5 @@
 //! The numbers of the refusals: 1 to 12 from document 01, "Calls and
-//! refusals"; 13 from document 02, request F-1.
+//! refusals"; 13 and 14 from document 02, requests F-1 and F-3.
 
 /// No refusal: the call was carried out.
 pub const NONE: u32 = 0;
@@ -29,3 +29,5 @@ pub const FILE: u32 = 11;
 pub const BENCH: u32 = 12;
 /// The unit is not a number from 1/1,048,576 to 16.
 pub const UNIT: u32 = 13;
+/// The band is above 32767.
+pub const BAND: u32 = 14;

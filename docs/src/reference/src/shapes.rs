@@ -10,6 +10,7 @@
 //! finer the sphere of radius 28.8 in 64 cubes has 1,218,864 rows.
 
 use crate::block::Block;
+use crate::fill::LARGEST_BAND;
 use crate::generate::cuts_where_needed;
 use crate::lattice::Lattice;
 
@@ -108,6 +109,17 @@ fn from_distance(sizes: [u32; 3], distance: impl Fn([f64; 3]) -> f64) -> Block {
         samples,
         cuts,
     }
+}
+
+/// The least band (document 02, request F-3) that takes in at least a tenth of
+/// the block's points, or the largest one if none does.
+pub fn tenth_band(block: &Block) -> u32 {
+    let sizes = block.samples.iter().map(|s| u32::from(s.unsigned_abs()));
+    let mut sizes: Vec<u32> = sizes.collect();
+    sizes.sort();
+    let tenth = sizes.len().div_ceil(10);
+    let largest_taken_in = sizes[..tenth].last().copied();
+    largest_taken_in.unwrap_or(0).min(LARGEST_BAND)
 }
 
 /// The cut byte between two samples of opposite sign.

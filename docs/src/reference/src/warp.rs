@@ -1,10 +1,11 @@
 //! Moving points (warping the lattice), for the fast filling.
 //!
-//! Follows document 01, "Moving points", and request F-2 of document 02.
-//! Labels change to zero and never back, so the live cuts only grow fewer. A
-//! point without a mark is therefore not violated at its turn either, and the
-//! cut in a point's mark, the nearest at the outset, is still the nearest if
-//! it is still live.
+//! Follows document 01, "Moving points", and requests F-2 and F-3 of document
+//! 02. A point's mark is the nearest of all cuts that violate it. "A cut byte
+//! beside a zero label is simply not live", be the label zero by the band or
+//! by a move, so the live cuts are some of these. A point without a mark is
+//! therefore not violated at its turn either, and the cut in a point's mark is
+//! the nearest live one if it is live.
 
 use crate::bytes::ZERO;
 use crate::mark::{code_of_mark, MARKS, UNMARKED};
@@ -36,6 +37,9 @@ pub fn move_points(
                 continue;
             };
             let point = line.first + index;
+            if labels[point] == ZERO {
+                continue;
+            }
             let other = codes[usize::from(code) - 1].other_end(point);
             let code = if labels[other] != ZERO {
                 Some(code)
@@ -53,8 +57,7 @@ pub fn move_points(
 }
 
 /// The code of the nearest cut that is live and violates the point; if several
-/// are as near, the lowest code. The point itself is non-zero, since it is
-/// marked and has not moved yet.
+/// are as near, the lowest code. The point itself is non-zero.
 fn nearest_violating(
     codes: &[Reach; 14],
     index: usize,

@@ -1,11 +1,13 @@
 //! The fast filling equals the plain one: on valid blocks with row tables too
 //! short, exact and too long, and on calls that must be refused. All lent
 //! tables are full of noise beforehand, and entries that must stay are looked
-//! at on their own.
+//! at on their own. Valid blocks of random sizes are filled at band 0 here, and
+//! with bands in `tests/band.rs`.
 
 use reference::damage::{Call, Damage, Outcome, DAMAGES};
 use reference::fill::fill;
-use reference::generate::{any_block, block, crowded_block, Cutting, CUTTINGS, MIXES};
+use reference::generate::{any_band, any_block, block, crowded_block, wide_band};
+use reference::generate::{Cutting, CUTTINGS, MIXES};
 use reference::plain;
 use reference::random::Random;
 
@@ -64,7 +66,7 @@ fn check_valid(call: &mut Call, random: &mut Random) {
 fn on_random_valid_blocks() {
     let mut random = Random::new(1);
     for _ in 0..3000 {
-        let mut call = Call::good(any_block(&mut random, 5), 0);
+        let mut call = Call::good(any_block(&mut random, 5), 0, 0);
         check_valid(&mut call, &mut random);
     }
 }
@@ -73,13 +75,13 @@ fn on_random_valid_blocks() {
 fn on_crowded_blocks() {
     let mut random = Random::new(8);
     for _ in 0..2000 {
-        let mut call = Call::good(crowded_block(&mut random, 5), 0);
+        let mut call = Call::good(crowded_block(&mut random, 5), 0, 0);
         check_valid(&mut call, &mut random);
     }
     for sizes in [[64, 4, 3], [3, 64, 4], [4, 3, 64]] {
         for mix in MIXES {
             let block = block(&mut random, sizes, mix, Cutting::Close);
-            check_valid(&mut Call::good(block, 0), &mut random);
+            check_valid(&mut Call::good(block, 0, 0), &mut random);
         }
     }
 }
@@ -92,7 +94,9 @@ fn on_every_size_up_to_three() {
         for mix in MIXES {
             for cutting in CUTTINGS {
                 let block = block(&mut random, sizes, mix, cutting);
-                check_valid(&mut Call::good(block, 0), &mut random);
+                for band in [0, wide_band(&mut random, &block)] {
+                    check_valid(&mut Call::good(block.clone(), band, 0), &mut random);
+                }
             }
         }
     }
@@ -112,9 +116,18 @@ fn on_long_blocks() {
         for mix in MIXES {
             let cutting = random.pick(&CUTTINGS);
             let block = block(&mut random, sizes, mix, cutting);
-            check_valid(&mut Call::good(block, 0), &mut random);
+            for band in [0, wide_band(&mut random, &block)] {
+                check_valid(&mut Call::good(block.clone(), band, 0), &mut random);
+            }
         }
     }
+}
+
+/// A call with any block and any band that is not refused.
+fn any_call(random: &mut Random, largest: u32) -> Call {
+    let block = any_block(random, largest);
+    let band = any_band(random, &block);
+    Call::good(block, band, 0)
 }
 
 #[test]
@@ -122,7 +135,7 @@ fn on_every_damage() {
     let mut random = Random::new(4);
     let mut done = [0; DAMAGES.len()];
     for n in 0..4000 {
-        let mut call = Call::good(any_block(&mut random, 5), 0);
+        let mut call = any_call(&mut random, 5);
         let lattice = call.block.lattice().unwrap();
         let damage = DAMAGES[n % DAMAGES.len()];
         if call.damage(&mut random, &lattice, damage) {
@@ -137,9 +150,9 @@ fn on_every_damage() {
 #[test]
 fn on_several_damages_at_once() {
     let mut random = Random::new(5);
-    let mut seen = [0; 11];
+    let mut seen = [0; 15];
     for _ in 0..4000 {
-        let mut call = Call::good(any_block(&mut random, 4), 0);
+        let mut call = any_call(&mut random, 4);
         let lattice = call.block.lattice().unwrap();
         let first = random.below(DAMAGES.len());
         let mut done: Vec<Damage> = Vec::new();
@@ -157,7 +170,7 @@ fn on_several_damages_at_once() {
             [first, ..] => assert_eq!(number, first.refusal(), "{done:?}"),
         }
     }
-    for number in [0, 1, 2, 3, 4, 5, 6, 7, 10] {
+    for number in [0, 1, 2, 3, 4, 5, 6, 7, 10, 14] {
         assert!(seen[number] > 50, "{seen:?}");
     }
 }
@@ -166,7 +179,7 @@ fn on_several_damages_at_once() {
 fn lowest_of_many_wrong_bytes_and_rim_points() {
     let mut random = Random::new(6);
     for n in 0..1000 {
-        let mut call = Call::good(any_block(&mut random, 4), 0);
+        let mut call = any_call(&mut random, 4);
         let lattice = call.block.lattice().unwrap();
         for _ in 0..1 + random.below(6) {
             let damage = match n % 2 {
@@ -188,8 +201,9 @@ fn on_foreign_cut_tables() {
         let mix = random.pick(&MIXES);
         let other = random.pick(&MIXES);
         let cutting = random.pick(&CUTTINGS);
-        let mut call = Call::good(block(&mut random, sizes, mix, cutting), 0);
+        let mut call = Call::good(block(&mut random, sizes, mix, cutting), 0, 0);
         call.block.cuts = block(&mut random, sizes, other, cutting).cuts;
+        call.band = any_band(&mut random, &call.block);
         run_both(&call, random.bits());
     }
 }

@@ -24,12 +24,12 @@ fn answer(number: u32, rows: u64, moved: u64, place: u64) -> Filled {
 
 /// Fills with both fillings, which must agree, and answers the tables.
 fn filled(block: &Block) -> (Filled, Vec<u8>, Vec<u32>) {
-    let tables = fill_block(block);
+    let tables = fill_block(block, 0);
     let [nx, ny, nz] = block.sizes;
     let mut state = vec![0; 35];
     let mut rows = vec![0; 4 * 3 * 48];
     let (samples, cuts) = (&block.samples, &block.cuts);
-    let plain = plain::fill(nx, ny, nz, samples, cuts, &mut state, &mut rows);
+    let plain = plain::fill(nx, ny, nz, 0, samples, cuts, &mut state, &mut rows);
     rows.truncate(4 * plain.rows as usize);
     assert_eq!(
         (plain, &state, &rows),
@@ -66,7 +66,7 @@ fn check_refused(block: &Block, number: u32, place: u64) {
     let mut state = vec![77; 35];
     let mut rows = vec![99; 96];
     let (samples, cuts) = (&block.samples, &block.cuts);
-    let filled = fill(2, 2, 2, samples, cuts, &mut state, &mut rows);
+    let filled = fill(2, 2, 2, 0, samples, cuts, &mut state, &mut rows);
     assert_eq!(filled, answer(number, 0, 0, place));
     assert_eq!((state, rows), (vec![77; 35], vec![99; 96]));
     let output = bench_output(&write(block).unwrap());
@@ -129,7 +129,7 @@ fn row_tables_of_95_and_96_numbers() {
         let mut state = vec![77; 35];
         let mut rows = vec![99; length];
         let (samples, cuts) = (&block.samples, &block.cuts);
-        let filled = fill(2, 2, 2, samples, cuts, &mut state, &mut rows);
+        let filled = fill(2, 2, 2, 0, samples, cuts, &mut state, &mut rows);
         assert_eq!(filled, answer(number, 24, 0, 0));
         assert_eq!(state, expected_state);
         let mut after = vec![99; length];

@@ -1,4 +1,5 @@
-//! Demand 3, by brute force, on thousands of random valid blocks.
+//! Demand 3, by brute force, on thousands of random valid blocks at band 0;
+//! `tests/band.rs` has bands.
 
 use reference::blockfile::fill_block;
 use reference::check::check_mesh;
@@ -11,9 +12,9 @@ fn closed_and_positive_on_random_blocks() {
     let mut with_rows = 0;
     for n in 0..3000 {
         let block = any_block(&mut random, 6);
-        let tables = fill_block(&block);
+        let tables = fill_block(&block, 0);
         assert_eq!(tables.filled.number, 0);
-        let faces = check_mesh(&block, &tables.state, &tables.rows);
+        let faces = check_mesh(&block, 0, &tables.state, &tables.rows);
         let faces = faces.unwrap_or_else(|fault| panic!("block {n}: {fault}"));
         assert_eq!(2 * faces.inner + faces.skin, tables.rows.len());
         with_rows += usize::from(!tables.rows.is_empty());
@@ -27,8 +28,8 @@ fn closed_and_positive_on_crowded_blocks() {
     let mut with_rows = 0;
     for n in 0..2000 {
         let block = crowded_block(&mut random, 6);
-        let tables = fill_block(&block);
-        let faces = check_mesh(&block, &tables.state, &tables.rows);
+        let tables = fill_block(&block, 0);
+        let faces = check_mesh(&block, 0, &tables.state, &tables.rows);
         faces.unwrap_or_else(|fault| panic!("block {n}: {fault}"));
         with_rows += usize::from(!tables.rows.is_empty());
     }
@@ -42,8 +43,8 @@ fn closed_and_positive_in_every_mix() {
         for cutting in CUTTINGS.into_iter().chain([Cutting::Close]) {
             for _ in 0..10 {
                 let block = block(&mut random, [6, 6, 6], mix, cutting);
-                let tables = fill_block(&block);
-                let faces = check_mesh(&block, &tables.state, &tables.rows);
+                let tables = fill_block(&block, 0);
+                let faces = check_mesh(&block, 0, &tables.state, &tables.rows);
                 faces.unwrap_or_else(|fault| panic!("{mix:?} {cutting:?}: {fault}"));
             }
         }

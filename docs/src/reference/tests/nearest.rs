@@ -80,8 +80,8 @@ impl Seen {
     fn check(&mut self, block: &Block) {
         let lattice = block.lattice().unwrap();
         let (samples, cuts) = (&block.samples, &block.cuts);
-        let old = move_points_by(first, &lattice, samples, cuts);
-        let new = move_points(&lattice, samples, cuts);
+        let old = move_points_by(first, &lattice, 0, samples, cuts);
+        let new = move_points(&lattice, 0, samples, cuts);
         let mut labels: Vec<i16> = samples.iter().map(|sample| sample.signum()).collect();
         for point in 0..samples.len() {
             let all = match labels[point] {
@@ -137,7 +137,7 @@ impl Seen {
 
     /// The fast filling writes these codes, and the place call believes them.
     fn check_tables(&self, block: &Block, lattice: &Lattice, codes: &[u8]) {
-        let tables = fill_block(block);
+        let tables = fill_block(block, 0);
         assert_eq!(tables.filled.number, 0);
         assert_eq!(tables.state, codes);
         let [nx, ny, nz] = block.sizes;
@@ -196,11 +196,11 @@ fn check_codes(cuts: &[(u8, u8)], before: u8, now: u8) -> [u32; 3] {
     let block = with_cuts(cuts);
     let lattice = block.lattice().unwrap();
     let only_13 = |code: u8| -> Vec<u8> { (0..35).map(|p| u8::from(p == 13) * code).collect() };
-    let old = move_points_by(first, &lattice, &block.samples, &block.cuts);
+    let old = move_points_by(first, &lattice, 0, &block.samples, &block.cuts);
     assert_eq!(old.codes, only_13(before), "{cuts:?}");
-    let new = move_points(&lattice, &block.samples, &block.cuts);
+    let new = move_points(&lattice, 0, &block.samples, &block.cuts);
     assert_eq!(new.codes, only_13(now), "{cuts:?}");
-    let tables = fill_block(&block);
+    let tables = fill_block(&block, 0);
     assert_eq!(tables.state, new.codes, "{cuts:?}");
     assert_eq!((tables.filled.rows, tables.filled.moved), (0, 1));
     let Placed { number, x, y, z } = place(2, 2, 2, &block.cuts, &tables.state, 13);
@@ -290,7 +290,7 @@ fn all_fourteen_violate() {
 #[test]
 fn a_farther_cut_is_still_believable() {
     let block = with_cuts(&[(1, 60), (4, 66)]);
-    let mut state = fill_block(&block).state;
+    let mut state = fill_block(&block, 0).state;
     assert_eq!(state[13], 4);
     state[13] = 1;
     let Placed { number, x, y, z } = place(2, 2, 2, &block.cuts, &state, 13);

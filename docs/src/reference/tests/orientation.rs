@@ -15,7 +15,7 @@
 use reference::block::Block;
 use reference::blockfile::fill_block;
 use reference::cut::{limit, place_of_cut, place_of_point, six_volume, Place};
-use reference::generate::{block, CUTTINGS, MIXES};
+use reference::generate::{block, wide_band, CUTTINGS, MIXES};
 use reference::lattice::{Edge, Lattice, DIRECTIONS};
 use reference::plain::{id_of, move_points, place_of, rows_of, tetrahedra, Corner};
 use reference::random::Random;
@@ -69,7 +69,8 @@ fn swaps_follow_the_six_volume_in_all_patterns() {
         for cutting in CUTTINGS {
             for _ in 0..12 {
                 let block = block(&mut random, [6, 6, 6], mix, cutting);
-                check_swaps(&block, &mut seen);
+                check_swaps(&block, 0, &mut seen);
+                check_swaps(&block, wide_band(&mut random, &block), &mut seen);
             }
         }
     }
@@ -77,10 +78,10 @@ fn swaps_follow_the_six_volume_in_all_patterns() {
 }
 
 /// Compares each row with its signed six-volume and notes the patterns seen.
-fn check_swaps(block: &Block, seen: &mut HashSet<(usize, usize, [i16; 4])>) {
+fn check_swaps(block: &Block, band: u32, seen: &mut HashSet<(usize, usize, [i16; 4])>) {
     let lattice = block.lattice().unwrap();
-    let tables = fill_block(block);
-    let moved = move_points(&lattice, &block.samples, &block.cuts);
+    let tables = fill_block(block, band);
+    let moved = move_points(&lattice, band, &block.samples, &block.cuts);
     let mut rows = tables.rows.chunks_exact(4);
     let list = tetrahedra(&lattice);
     for (n, mut corners) in list.iter().copied().enumerate() {

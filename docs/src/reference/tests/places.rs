@@ -46,8 +46,8 @@ fn agrees_with_filling_on_every_id() {
         let block = any_block(&mut random, 4);
         let [nx, ny, nz] = block.sizes;
         let lattice = block.lattice().unwrap();
-        let tables = fill_block(&block);
-        let moved = move_points(&lattice, &block.samples, &block.cuts);
+        let tables = fill_block(&block, 0);
+        let moved = move_points(&lattice, 0, &block.samples, &block.cuts);
         assert_eq!(tables.state, moved.codes);
         let n = lattice.point_count();
         let placed = |id: usize| place(nx, ny, nz, &block.cuts, &tables.state, id as u32);
@@ -169,11 +169,11 @@ fn measures_of_blocks() {
 /// The shapes for timing are valid blocks with the expected counts.
 #[test]
 fn shapes_for_timing() {
-    let sphere = fill_block(&shapes::sphere()).filled;
+    let sphere = fill_block(&shapes::sphere(), 0).filled;
     assert_eq!((sphere.number, sphere.rows), (0, 1_218_864));
-    let air = fill_block(&shapes::air()).filled;
+    let air = fill_block(&shapes::air(), 0).filled;
     assert_eq!((air.number, air.rows, air.moved), (0, 0, 0));
-    let ribs = fill_block(&shapes::ribs()).filled;
+    let ribs = fill_block(&shapes::ribs(), 0).filled;
     assert_eq!(ribs.number, 0);
     assert!(ribs.rows > 1_000_000 && ribs.moved > 10_000);
 }

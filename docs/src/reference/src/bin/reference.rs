@@ -12,8 +12,9 @@ use std::process::ExitCode;
 const USAGE: &str = "\
 usage: reference <command>
   bench-output        block file in, the bench program's output out
-  tables              block file (sizes to 64) in, all answers out: number, T,
-                      M, place; the state bytes; the rows, one a line
+  tables [band]       block file (sizes to 64) in, all answers out: number, T,
+                      M, place; the state bytes; the rows, one a line; band 0
+                      if none is given
   case                the given case of document 01 out, as a block file
   random <seed> <n>   a random valid block with sizes 1 to n out, as a block file
 ";
@@ -23,7 +24,8 @@ fn main() -> ExitCode {
     let arguments: Vec<&str> = arguments.iter().map(String::as_str).collect();
     let output = match arguments[..] {
         ["bench-output"] => Some(bench_output(&input()).into_bytes()),
-        ["tables"] => Some(tables(&input()).into_bytes()),
+        ["tables"] => tables_text("0"),
+        ["tables", band] => tables_text(band),
         ["case"] => write(&Block::given_case()),
         ["random", seed, largest] => random_file(seed, largest),
         _ => None,
@@ -53,14 +55,19 @@ fn random_file(seed: &str, largest: &str) -> Option<Vec<u8>> {
     write(&any_block(&mut Random::new(seed), largest))
 }
 
+fn tables_text(band: &str) -> Option<Vec<u8>> {
+    let band = band.parse().ok()?;
+    Some(tables(&input(), band).into_bytes())
+}
+
 /// The whole answer of filling, or the refusal's number if the file cannot be
 /// read.
-fn tables(file: &[u8]) -> String {
+fn tables(file: &[u8], band: u32) -> String {
     let block = match read(file, LARGEST_SIZE) {
         Ok(block) => block,
         Err(number) => return format!("{number} 0 0 0\n"),
     };
-    let tables = fill_block(&block);
+    let tables = fill_block(&block, band);
     let filled = tables.filled;
     let mut text = format!(
         "{} {} {} {}\n",

@@ -14,17 +14,21 @@ fn main() {
         ("air", shapes::air()),
         ("ribs", shapes::ribs()),
     ] {
-        report(name, &block, runs);
+        report(name, &block, 0, runs);
     }
+    let sphere = shapes::sphere();
+    let band = shapes::tenth_band(&sphere);
+    report(&format!("sphere, band {band}"), &sphere, band, runs);
 }
 
 /// Prints the best and the middle time of some runs over warm tables.
-fn report(name: &str, block: &Block, runs: usize) {
+fn report(name: &str, block: &Block, band: u32, runs: usize) {
     let [nx, ny, nz] = block.sizes;
     let mut state = vec![0; block.samples.len()];
     let run = |state: &mut [u8], rows: &mut [u32]| -> (f64, Filled) {
         let begin = Instant::now();
-        let filled = fill(nx, ny, nz, &block.samples, &block.cuts, state, rows);
+        let (samples, cuts) = (&block.samples, &block.cuts);
+        let filled = fill(nx, ny, nz, band, samples, cuts, state, rows);
         (begin.elapsed().as_secs_f64() * 1e3, filled)
     };
     let (_, needed) = run(&mut state, &mut []);

@@ -105,7 +105,7 @@ pub struct Tables {
 impl Tables {
     /// A block and the state table that filling it leaves.
     pub fn filled(block: Block) -> Tables {
-        let filled = fill_block(&block);
+        let filled = fill_block(&block, 0);
         assert_eq!(filled.filled.number, 0);
         let (sizes, cuts, state) = (block.sizes, block.cuts, filled.state);
         Tables { sizes, cuts, state }
