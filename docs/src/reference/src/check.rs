@@ -4,9 +4,10 @@
 //! claim about all T rows" on: every row has four different corners and a
 //! six-volume above zero, and every face lies in exactly two rows that wind it
 //! opposite ways, or in exactly one and then with its three corners on the
-//! skin. On the skin are a cut point, a moved point and, by request F-3 of
-//! document 02, a point whose sample's size is at most the band. Nothing of how the rows came about is used, but which points the
-//! rules move is found anew and not read off the state table.
+//! skin. On the skin are a cut point, a moved point and, since request F-3 of
+//! document 02, a point whose sample's size is at most the band. Nothing of
+//! how the rows came about is used, but which points the rules move is found
+//! anew and not read off the state table.
 
 use crate::block::Block;
 use crate::cut::{six_volume, Place};

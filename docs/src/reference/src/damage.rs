@@ -1,8 +1,8 @@
 //! Calls of filling that must be refused, and why.
 //!
 //! Each refusal of filling (document 01, "Calls and refusals": 1 to 7 and 10;
-//! document 02, request F-3: 14) has one kind of damage. Several damages can be done to one call, to see in
-//! which order the refusals come.
+//! document 02, request F-3: 14) has one kind of damage. Several damages can
+//! be done to one call, to see in which order the refusals come.
 
 use crate::block::Block;
 use crate::fill::Filled;

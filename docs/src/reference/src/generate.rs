@@ -91,7 +91,7 @@ pub fn flickering_block(random: &mut Random, largest: u32) -> Block {
     block_of(random, sizes, mix, cutting, sample)
 }
 
-/// A random band, often one at which some sample of the block changes sides.
+/// A random band for a valid block, often one at which a sample changes sides.
 pub fn any_band(random: &mut Random, block: &Block) -> u32 {
     let size = i64::from(random.pick(&block.samples).unsigned_abs());
     let largest = i64::from(LARGEST_BAND);

@@ -1,6 +1,7 @@
 //! An independent reference implementation of document 01, "Stuffing a
 //! scanned block with tetrahedra" (uniform isosurface stuffing), and of
-//! requests F-1 and F-2 of document 02, "Customer requests after the base".
+//! requests F-1, F-2 and F-3 of document 02, "Customer requests after the
+//! base".
 //!
 //! It was written from these documents, the paper that document 01 cites and
 //! IEEE 754 alone, to be compared with another implementation: in its answers
@@ -11,19 +12,20 @@
 //! | [`lattice`] | points, numbers, directions, rim (plain arithmetic) |
 //! | [`cut`] | cut bytes, violation with its squared distance, codes, places of cuts |
 //! | [`refusal`] | the refusals' numbers |
-//! | [`fill`] | filling a block, written for speed |
+//! | [`fill`] | filling a block with a band, written for speed |
 //! | [`strides`], [`mark`], [`bytes`], [`warp`], [`stencil`], [`emit`] | the steps of the fast filling |
-//! | [`plain`] | filling a block, sentence by sentence: the oracle |
+//! | [`plain`] | filling a block with a band, sentence by sentence: the oracle |
 //! | [`place`] | measures of a block and the place of an id |
 //! | [`metric`] | the place of an id in millimetres, with floats and without |
 //! | [`block`], [`blockfile`] | a block, its file, the bench program's output |
 //! | [`check`] | brute-force check of the finished mesh (demand 3) |
-//! | [`random`], [`generate`], [`damage`], [`shapes`] | inputs for tests and timing |
+//! | [`random`], [`generate`], [`damage`], [`shapes`] | inputs for tests and timing: blocks, bands, calls |
 //!
 //! The fast filling and the plain one share the counts of points, the seven
 //! directions and the test of violation, which the given cases of document 01
-//! pin down; for the rest each has its own code. [`plain`] also keeps the
-//! choice that points made before request F-2, for comparison.
+//! pin down; for the rest each has its own code, the labels too, which a band
+//! can make zero since request F-3. [`plain`] also keeps the choice that points
+//! made before request F-2, for comparison.
 
 #![forbid(unsafe_code)]
 #![warn(missing_docs)]

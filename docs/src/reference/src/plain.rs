@@ -2,12 +2,12 @@
 //!
 //! Follows document 01, "The block", "Moving points", "Lattice tetrahedra and
 //! rows" and "Calls and refusals" in their order, and in "Moving points"
-//! requests F-2 and F-3 of document 02. Every number is decoded, every tetrahedron
-//! listed, every corner sorted, every six-volume computed from the places of
-//! the moved points.
+//! requests F-2 and F-3 of document 02. Every number is decoded, every
+//! tetrahedron listed, every corner sorted, every six-volume computed from the
+//! places of the moved points.
 
 use crate::cut::{edge_of_code, place_of_cut, place_of_point, six_volume, violation, Place};
-use crate::fill::{Filled, LARGEST_BAND};
+use crate::fill::Filled;
 use crate::lattice::{Edge, Lattice};
 use crate::refusal;
 
@@ -44,7 +44,7 @@ pub fn fill(
     let Some(lattice) = Lattice::new(nx, ny, nz) else {
         return Filled::refused(refusal::SIZE, 0);
     };
-    if band > LARGEST_BAND {
+    if band > 32767 {
         return Filled::refused(refusal::BAND, 0);
     }
     let n = lattice.point_count();

@@ -8,7 +8,7 @@
 use reference::block::Block;
 use reference::blockfile::fill_block;
 use reference::cut::{edge_of_code, place_of_cut, place_of_point};
-use reference::generate::{any_block, crowded_block};
+use reference::generate::{any_block, crowded_block, flickering_block, wide_band};
 use reference::lattice::Lattice;
 use reference::place::{place, Placed};
 use reference::plain::{first, ids_of_rows, move_points, move_points_by};
@@ -55,6 +55,12 @@ fn violators(lattice: &Lattice, cuts: &[u8], labels: &[i16], point: usize) -> Ve
     list
 }
 
+/// A point's label at the outset: its sample's sign, or zero in the band.
+fn label(sample: i16, band: u32) -> i16 {
+    let outside = u32::from(sample.unsigned_abs()) > band;
+    sample.signum() * i16::from(outside)
+}
+
 /// What was seen on some blocks.
 #[derive(Debug, Default)]
 struct Seen {
@@ -77,12 +83,12 @@ struct Seen {
 impl Seen {
     /// Walks the points of a block in ascending number, with labels of its
     /// own, and holds the state tables of both choices against it.
-    fn check(&mut self, block: &Block) {
+    fn check(&mut self, block: &Block, band: u32) {
         let lattice = block.lattice().unwrap();
         let (samples, cuts) = (&block.samples, &block.cuts);
-        let old = move_points_by(first, &lattice, 0, samples, cuts);
-        let new = move_points(&lattice, 0, samples, cuts);
-        let mut labels: Vec<i16> = samples.iter().map(|sample| sample.signum()).collect();
+        let old = move_points_by(first, &lattice, band, samples, cuts);
+        let new = move_points(&lattice, band, samples, cuts);
+        let mut labels: Vec<i16> = samples.iter().map(|&s| label(s, band)).collect();
         for point in 0..samples.len() {
             let all = match labels[point] {
                 0 => vec![],
@@ -101,7 +107,7 @@ impl Seen {
             labels[point] = 0;
         }
         assert_eq!((&old.labels, &new.labels), (&labels, &labels));
-        self.check_tables(block, &lattice, &new.codes);
+        self.check_tables(block, band, &lattice, &new.codes);
         let ids = ids_of_rows(&lattice, cuts, &new);
         assert_eq!(ids_of_rows(&lattice, cuts, &old), ids);
         self.blocks += 1;
@@ -136,8 +142,8 @@ impl Seen {
     }
 
     /// The fast filling writes these codes, and the place call believes them.
-    fn check_tables(&self, block: &Block, lattice: &Lattice, codes: &[u8]) {
-        let tables = fill_block(block, 0);
+    fn check_tables(&self, block: &Block, band: u32, lattice: &Lattice, codes: &[u8]) {
+        let tables = fill_block(block, band);
         assert_eq!(tables.filled.number, 0);
         assert_eq!(tables.state, codes);
         let [nx, ny, nz] = block.sizes;
@@ -166,7 +172,7 @@ fn on_random_blocks() {
         let mut random = Random::new(seed);
         let mut seen = Seen::default();
         for _ in 0..6000 {
-            seen.check(&blocks(&mut random, 5));
+            seen.check(&blocks(&mut random, 5), 0);
         }
         println!("{seen:?}");
         assert_eq!(seen.blocks, 6000);
@@ -175,6 +181,22 @@ fn on_random_blocks() {
         assert!(seen.ties > 5_000 && seen.dead_nearer > 3_000, "{seen:?}");
         assert!(seen.least_t_is_farther > 800, "{seen:?}");
     }
+}
+
+/// The same with bands (request F-3), so that some violating cuts are not live
+/// from the outset.
+#[test]
+fn on_random_blocks_with_bands() {
+    let mut random = Random::new(53);
+    let mut seen = Seen::default();
+    for _ in 0..2000 {
+        let block = flickering_block(&mut random, 5);
+        seen.check(&block, wide_band(&mut random, &block));
+    }
+    println!("{seen:?}");
+    assert!(seen.moved > 5_000 && seen.rows > 80_000, "{seen:?}");
+    assert!(seen.several > 1_500 && seen.differ > 600, "{seen:?}");
+    assert!(seen.ties > 200 && seen.dead_nearer > 1_000, "{seen:?}");
 }
 
 /// The byte of each code at point 13 of the given case.
