@@ -39,7 +39,7 @@ struct Met {
     points: usize,
     /// Of these, points whose samples are just as large as the band.
     border: usize,
-    /// Points with sample -32768 and the largest band.
+    /// Points with sample -32768, which are in no band, though 16 bits hold no size for them.
     lowest: usize,
     /// Cuts with an end in the band.
     dead: usize,
@@ -59,7 +59,7 @@ impl Met {
             let size = u32::from(sample.unsigned_abs());
             self.points += usize::from(in_band(call, point));
             self.border += usize::from(in_band(call, point) && size == call.band);
-            self.lowest += usize::from(size == 32768 && call.band == 32767);
+            self.lowest += usize::from(size == 32768 && call.band > 0);
         }
         for (offset, &t) in cuts.iter().enumerate().filter(|(_, &t)| t != 0) {
             let ends_in_band = ends(&lattice, offset).unwrap().map(|point| in_band(call, point));
@@ -87,7 +87,7 @@ fn banded_blocks(seed: u64, blocks: fn(&mut Random, u32) -> Block) {
         met.count(&call, same_filling(&call, random.bits()));
         three_tables(&mut call, &mut random);
     }
-    assert!(met.points > 200_000 && met.border > 10_000 && met.lowest > 500, "{met:?}");
+    assert!(met.points > 200_000 && met.border > 10_000 && met.lowest > 10_000, "{met:?}");
     assert!(met.dead > 200_000 && met.near > 20_000, "{met:?}");
     assert!(met.moved > 15_000 && met.rows > 100_000, "{met:?}");
 }
