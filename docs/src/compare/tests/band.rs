@@ -12,12 +12,13 @@ use reference::plain::label;
 use reference::random::Random;
 use reference::shapes::{mount, ribs, sphere, tenth_band};
 
-/// A call with an exact row table. Its length is asked for, with no room at all.
-fn exact_call(block: Block, band: u32, random: &mut Random) -> Call {
+/// A call with an exact row table, and its T and M: they are asked for, with no room at all.
+fn exact_call(block: Block, band: u32, random: &mut Random) -> (Call, Filled) {
     let state_length = block.samples.len();
     let mut call = Call { block, band, state_length, row_length: 0 };
-    call.row_length = 4 * same_filling(&call, random.bits()).rows as usize;
-    call
+    let asked = same_filling(&call, random.bits());
+    call.row_length = 4 * asked.rows as usize;
+    (call, asked)
 }
 
 /// Whether a point is on the skin by the band alone.
@@ -52,7 +53,7 @@ struct Met {
 }
 
 impl Met {
-    fn count(&mut self, call: &Call, filled: Filled) {
+    fn count(&mut self, call: &Call, asked: Filled) {
         let Block { samples, cuts, .. } = &call.block;
         let lattice = call.block.lattice().unwrap();
         for (point, sample) in samples.iter().enumerate() {
@@ -71,8 +72,8 @@ impl Met {
                 _ => 0,
             };
         }
-        self.moved += filled.moved;
-        self.rows += filled.rows;
+        self.moved += asked.moved;
+        self.rows += asked.rows;
     }
 }
 
@@ -83,8 +84,8 @@ fn banded_blocks(seed: u64, blocks: fn(&mut Random, u32) -> Block) {
     for n in 0..4000 {
         let block = blocks(&mut random, 5);
         let band = [any_band, wide_band][n % 2](&mut random, &block);
-        let mut call = exact_call(block, band, &mut random);
-        met.count(&call, same_filling(&call, random.bits()));
+        let (mut call, asked) = exact_call(block, band, &mut random);
+        met.count(&call, asked);
         three_tables(&mut call, &mut random);
     }
     assert!(met.points > 200_000 && met.border > 10_000 && met.lowest > 10_000, "{met:?}");
@@ -114,16 +115,15 @@ fn long_blocks() {
     let mut random = Random::new(114);
     for sizes in [[64, 3, 4], [3, 64, 4], [4, 3, 64], [33, 8, 5], [20, 20, 20]] {
         for mix in MIXES {
-            for (band, cutting) in [(any_band as Banding, Cutting::Wild), (wide_band, Cutting::Close)] {
+            for (n, cutting) in [Cutting::Wild, Cutting::Close].into_iter().enumerate() {
                 let block = block(&mut random, sizes, mix, cutting);
-                let band = band(&mut random, &block);
-                three_tables(&mut exact_call(block, band, &mut random), &mut random);
+                let band = [any_band, wide_band][n](&mut random, &block);
+                let (mut call, _) = exact_call(block, band, &mut random);
+                three_tables(&mut call, &mut random);
             }
         }
     }
 }
-
-type Banding = fn(&mut Random, &Block) -> u32;
 
 /// Parts of up to 64 by 64 by 64 cubes: long runs of rubber, of air and of points in the band.
 #[test]
@@ -131,9 +131,9 @@ fn whole_parts() {
     let mut random = Random::new(115);
     for part in [sphere(), ribs(), mount()] {
         for band in [3, 200, tenth_band(&part)] {
-            let call = exact_call(part.clone(), band, &mut random);
-            let filled = same_filling(&call, random.bits());
-            assert!(filled.number == 0 && filled.rows > 0, "{filled:?}");
+            let (call, asked) = exact_call(part.clone(), band, &mut random);
+            assert!(asked.rows > 0);
+            assert_eq!(same_filling(&call, random.bits()), Filled { number: 0, ..asked });
         }
     }
 }
@@ -158,14 +158,11 @@ fn flickering_mount(random: &mut Random) -> Block {
 fn flicker_in_plain_air() {
     let mut random = Random::new(116);
     let block = flickering_mount(&mut random);
-    let [raw, two, three] = [0, 2, 3].map(|band| exact_call(block.clone(), band, &mut random));
-    let clean = exact_call(mount(), 3, &mut random);
+    let [raw, two, three] = [0, 2, 3].map(|band| exact_call(block.clone(), band, &mut random).0);
     assert!(raw.row_length > two.row_length && two.row_length > three.row_length);
-    let [flickering, clean] = [three, clean].map(|call| {
-        same_filling(&call, 1);
-        call.run(compare::fill, &mut Random::new(1))
-    });
-    assert_eq!(flickering.filled, clean.filled);
+    let (clean, _) = exact_call(mount(), 3, &mut random);
+    let [flickering, clean] = [three, clean].map(|call| call.run(compare::fill, &mut Random::new(1)));
+    assert_eq!((flickering.filled.number, flickering.filled), (0, clean.filled));
     assert!(flickering.state == clean.state && flickering.rows == clean.rows);
 }
 
@@ -177,7 +174,7 @@ fn damaged_blocks() {
     for n in 0..4500 {
         let block = [any_block, flickering_block][n % 2](&mut random, 5);
         let band = [any_band, wide_band][n / 2 % 2](&mut random, &block);
-        let mut call = exact_call(block, band, &mut random);
+        let (mut call, _) = exact_call(block, band, &mut random);
         let lattice = call.block.lattice().unwrap();
         // one damage for certain, others now and then: the order of refusals is compared too
         for (k, damage) in DAMAGES.into_iter().enumerate() {
@@ -207,7 +204,7 @@ fn damaged_blocks() {
 fn fourteen_comes_after_one() {
     let mut random = Random::new(118);
     for n in 0..900 {
-        let mut call = exact_call(any_block(&mut random, 4), 0, &mut random);
+        let (mut call, _) = exact_call(any_block(&mut random, 4), 0, &mut random);
         let lattice = call.block.lattice().unwrap();
         let other = DAMAGES[n % DAMAGES.len()];
         for damage in [Damage::Band, other] {
@@ -230,7 +227,7 @@ fn every_id_of_banded_blocks() {
     for n in 0..300 {
         let block = [any_block, crowded_block, flickering_block][n % 3](&mut random, 4);
         let band = wide_band(&mut random, &block);
-        let call = exact_call(block, band, &mut random);
+        let (call, _) = exact_call(block, band, &mut random);
         let (block, outcome) = (&call.block, call.run(compare::fill, &mut random));
         let (lattice, points) = (block.lattice().unwrap(), block.samples.len() as u32);
         let is_dead = |id: u32| {
