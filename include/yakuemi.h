@@ -10,7 +10,7 @@
  *
  * A block's tables, and those that filling writes:
  *
- *   samples   N      signed, one a point: above zero in rubber, below zero in air, in the band (or zero) on the skin
+ *   samples   N      signed, one a point: above zero in rubber, below zero in air; on the skin if in the band, as zero always is
  *   cuts      7N     the edge from point p in direction d (0 to 6) has byte 7p+d: how many 256ths along from p the skin crosses it;
  *                    1 to 255 exactly where one end's sample is above zero and the other's below, whatever the band, else 0
  *   state     N      written: 0 if the point did not move; d+1 if it moved onto the cut of its edge in direction d, d+8 if onto that of
@@ -33,8 +33,8 @@
  *
  * Tables. A table is a pointer and its length in entries, not in bytes. The pointer must be valid for that many entries, aligned
  * for its type, and not null even where the length is 0 (nothing is read or written through it then). Tables that are lent to one
- * call must not overlap. That is all that is asked: whatever sizes, lengths, contents, ids and units are handed in, the call ends
- * with an answer, touches nothing but the tables it was lent, keeps nothing, allocates nothing and uses no global state, so calls
+ * call must not overlap. That is all that is asked: whatever sizes, bands, lengths, contents, ids and units are handed in, the call
+ * ends with an answer, touches nothing but the tables it was lent, keeps nothing, allocates nothing and uses no global state, so calls
  * on different tables may run at the same time.
  *
  * Answers. Every call answers a struct by value. Its number is 0, or one of the refusals below.
@@ -137,8 +137,8 @@ struct yakuemi_filled {
  *   6 or 7     place: the offset of the lowest byte at fault   T, M 0             no table is written
  *   10         place 0                     T and M as with a longer table         state is written whole, rows stays as it was
  *
- * 5, 6 and 7 read the samples as they are, with any band: a sample above zero on the rim is refused though it be in the band, and so is
- * a cut byte that is zero between samples of opposite signs.
+ * 5, 6 and 7 read the samples as they are, whatever the band: a sample above zero on the rim is refused even if it is in the band, and
+ * so is a zero cut byte between samples of opposite signs.
  *
  * To learn T, call it with a row table of length 0: the answer is 10 and says T (or 0, if T is 0). Or lend 12 times
  * the lattice tetrahedra, which always suffices.
@@ -161,8 +161,8 @@ struct yakuemi_placed {
  * Answers 0 with the place, for every id of the rows of a filled block. Or, with the place (0, 0, 0), the first of these
  * that applies: 1, 3, 4; 8 if the id is 8N or more, or is that of a cut whose edge does not exist, has byte 0 or has an end with
  * a non-zero state byte; 9 if the point's state byte is above 14, or names an edge that does not exist, has byte 0 or has its cut too far
- * from the point to move it. (A byte that names a cut near enough, though not the nearest, has its place; so has a cut beside a point in
- * the band, though no row names it: the call reads no samples.)
+ * from the point to move it. (The call reads no samples and takes no band, so it also answers a place for a byte that names a cut near
+ * enough but not the nearest, and for a cut beside a point in the band, which no row names.)
  */
 struct yakuemi_placed yakuemi_place(uint32_t nx, uint32_t ny, uint32_t nz,
                                     const uint8_t *cuts, size_t cuts_len,
