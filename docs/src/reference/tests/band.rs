@@ -9,11 +9,12 @@ use reference::block::Block;
 use reference::blockfile::{bench_output, fill_block, write};
 use reference::bytes::{read_labels, MINUS, PLUS, ZERO};
 use reference::check::check_mesh;
-use reference::cut::{edge_of_code, violation, End};
+use reference::cut::{edge_of_code, violation};
 use reference::damage::{Call, Damage, Outcome, DAMAGES};
 use reference::fill::Filled;
 use reference::generate::{any_band, any_block, crowded_block, flickering_block, wide_band};
 use reference::generate::{block, Cutting, CUTTINGS, MIXES};
+use reference::lattice::{Edge, Lattice};
 use reference::place::{place, Placed};
 use reference::plain::{ids_of_rows, label, nearest, Moved, Violation};
 use reference::random::Random;
@@ -129,43 +130,26 @@ impl Seen {
         }
     }
 
-    /// Counts the bytes beside in-band points, and what they fail to do.
+    /// Counts the bytes beside in-band points, and what they fail to do: no
+    /// point moves to such a cut.
     fn count_cuts(&mut self, block: &Block, band: u32, state: &[u8]) {
-        let lattice = block.lattice().unwrap();
-        let in_band = |point: usize| in_band(band, block.samples[point]);
-        for point in 0..block.samples.len() {
-            let mut dead = Vec::new();
-            let mut outside_band = 0;
-            let mut own_distance = None;
-            for code in 1..=14 {
-                let Some((edge, end)) = edge_of_code(&lattice, point, code) else {
-                    continue;
-                };
-                let byte = block.cuts[edge.offset()];
-                let far = lattice.end(edge.start, edge.direction).unwrap();
-                let beside = byte != 0 && (in_band(edge.start) || in_band(far));
-                self.beside += usize::from(beside && end == End::Start);
-                let Some(distance) = violation(byte, edge.direction, end) else {
-                    continue;
-                };
-                if beside {
-                    dead.push(distance);
-                } else {
-                    outside_band += 1;
-                }
-                if code == state[point] {
-                    assert!(!beside, "moved to a cut that is not live");
-                    own_distance = Some(distance);
-                }
-            }
-            if in_band(point) {
-                self.violate_in_band_end += dead.len();
+        self.beside += bytes_beside(block, band);
+        for (point, &code) in state.iter().enumerate() {
+            let all = violators(block, band, point).into_iter();
+            let (beside, others): (Vec<_>, Vec<_>) = all.partition(|v| v.beside);
+            if in_band(band, block.samples[point]) {
+                assert!(others.is_empty());
+                self.violate_in_band_end += beside.len();
                 continue;
             }
-            self.violate_other_end += dead.len();
-            let nearer = |&distance: &u32| own_distance.is_some_and(|own| distance < own);
-            self.move_past_nearer += usize::from(dead.iter().any(nearer));
-            self.stay_by_the_band += usize::from(!dead.is_empty() && outside_band == 0);
+            self.violate_other_end += beside.len();
+            self.stay_by_the_band += usize::from(!beside.is_empty() && others.is_empty());
+            if let Some(chosen) = others.iter().find(|v| v.code == code) {
+                let nearer = |v: &Violator| v.distance < chosen.distance;
+                self.move_past_nearer += usize::from(beside.iter().any(nearer));
+            } else {
+                assert_eq!(code, 0, "moved to a cut that is not live");
+            }
         }
     }
 
@@ -176,6 +160,48 @@ impl Seen {
         self.other_rows += usize::from(rows_at_0 != rows);
         self.emptied += usize::from(rows_at_0 > 0 && rows == 0);
     }
+}
+
+/// A cut that violates a point by its byte.
+struct Violator {
+    code: u8,
+    distance: u32,
+    /// Whether an end of its edge is in the band.
+    beside: bool,
+}
+
+fn violators(block: &Block, band: u32, point: usize) -> Vec<Violator> {
+    let lattice = block.lattice().unwrap();
+    let violator = |code| {
+        let (edge, end) = edge_of_code(&lattice, point, code)?;
+        let distance = violation(block.cuts[edge.offset()], edge.direction, end)?;
+        let beside = is_beside(block, &lattice, band, edge);
+        Some(Violator {
+            code,
+            distance,
+            beside,
+        })
+    };
+    (1..=14).filter_map(violator).collect()
+}
+
+/// Whether an end of an edge is in the band.
+fn is_beside(block: &Block, lattice: &Lattice, band: u32, edge: Edge) -> bool {
+    let end = lattice.end(edge.start, edge.direction).unwrap();
+    [edge.start, end].map(|point| in_band(band, block.samples[point])) != [false; 2]
+}
+
+/// How many non-zero bytes lie beside in-band points.
+fn bytes_beside(block: &Block, band: u32) -> usize {
+    let lattice = block.lattice().unwrap();
+    let is_cut = |offset: &usize| block.cuts[*offset] != 0;
+    let edges = (0..block.cuts.len()).filter(is_cut).map(|offset| Edge {
+        start: offset / 7,
+        direction: offset % 7,
+    });
+    edges
+        .filter(|&edge| is_beside(block, &lattice, band, edge))
+        .count()
 }
 
 /// The points that are corners of a face in exactly one row.
@@ -445,6 +471,8 @@ fn the_given_case() {
     }
 }
 
+type Fault = fn(&mut Call);
+
 /// 1, 14, 2 and so on; 14 writes nothing, as `run_both` sees.
 #[test]
 fn order_of_checks() {
@@ -457,7 +485,7 @@ fn order_of_checks() {
     }
     // One later fault after the other, the latest first.
     let mut call = good;
-    let faults: [(u32, usize, fn(&mut Call)); 8] = [
+    let faults: [(u32, usize, Fault); 8] = [
         (10, 0, |call| call.row_length = 95),
         (7, 98, |call| call.block.cuts[98] = 1),
         (6, 91, |call| call.block.cuts[91] = 0),
