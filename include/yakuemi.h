@@ -10,20 +10,31 @@
  *
  * A block's tables, and those that filling writes:
  *
- *   samples   N      signed, one a point: above zero in rubber, below zero in air, zero on the skin
+ *   samples   N      signed, one a point: above zero in rubber, below zero in air; on the skin if in the band, as zero always is
  *   cuts      7N     the edge from point p in direction d (0 to 6) has byte 7p+d: how many 256ths along from p the skin crosses it;
- *                    1 to 255 exactly where one end's sample is above zero and the other's below, else 0
+ *                    1 to 255 exactly where one end's sample is above zero and the other's below, whatever the band, else 0
  *   state     N      written: 0 if the point did not move; d+1 if it moved onto the cut of its edge in direction d, d+8 if onto that of
  *                    the edge that leads to it in direction d. Points have their turns in ascending number; of the cuts too near it
- *                    whose other end has not moved a point takes the nearest, and of those as near the one with the lower byte here
+ *                    whose other end has not moved and is not in the band a point takes the nearest, and of those as near the one
+ *                    with the lower byte here
  *   rows      4T     written: the tetrahedra, four ids a row; an id is p for a point, N+7p+d for the cut of an edge
  *
  * A row a b c d has a positive volume: (b-a) x (c-a) . (d-a) is above zero, as VTK, Gmsh and Abaqus want it.
  *
+ * The band. Scanners flicker: in plain air some samples come out a little above zero. So filling takes a band, a number from 0 to 32767,
+ * and a sample whose size is at most the band counts as zero: its point is in the band and lies on the skin. (-32768 has size 32768 and
+ * is in no band.) A point in the band never moves, and no cut beside it is used: none moves a point and none is in a row, as the skin
+ * runs through the point itself. Take the largest size that the flicker has, 3 if it goes from -3 to 3; or 0 for none: then only zeros
+ * are in the band. Too large a band spoils the part: rubber whose samples are in it is left out, so that thin walls vanish, and
+ * elsewhere the skin is drawn from the cuts to lattice points.
+ *
+ * So a corner of a row lies on the skin if it is a cut (an id of N or more), a point that moved (its state byte is not 0) or a point in
+ * the band. A face that belongs to one row only has three such corners.
+ *
  * Tables. A table is a pointer and its length in entries, not in bytes. The pointer must be valid for that many entries, aligned
  * for its type, and not null even where the length is 0 (nothing is read or written through it then). Tables that are lent to one
- * call must not overlap. That is all that is asked: whatever sizes, lengths, contents, ids and units are handed in, the call ends
- * with an answer, touches nothing but the tables it was lent, keeps nothing, allocates nothing and uses no global state, so calls
+ * call must not overlap. That is all that is asked: whatever sizes, bands, lengths, contents, ids and units are handed in, the call
+ * ends with an answer, touches nothing but the tables it was lent, keeps nothing, allocates nothing and uses no global state, so calls
  * on different tables may run at the same time.
  *
  * Answers. Every call answers a struct by value. Its number is 0, or one of the refusals below.
@@ -46,14 +57,15 @@ enum yakuemi_number {
     YAKUEMI_CUTS = 3,     /* the cut table has not 7N bytes */
     YAKUEMI_STATE = 4,    /* the state table has not N bytes */
     YAKUEMI_RIM = 5,      /* a rim point's sample is above zero: a corner on the block's outside, or the centre of an outer cube */
-    YAKUEMI_GAP = 6,      /* a cut byte is zero where the skin crosses */
-    YAKUEMI_STRAY = 7,    /* a cut byte is not zero where the skin does not cross, or where no edge is */
+    YAKUEMI_GAP = 6,      /* a cut byte is zero where one end's sample is above zero and the other's below */
+    YAKUEMI_STRAY = 7,    /* a cut byte is not zero where the ends' samples are not so, or where no edge is */
     YAKUEMI_CORNER = 8,   /* the id names no corner of a row */
     YAKUEMI_CODE = 9,     /* the point's state byte is not believable */
     YAKUEMI_TABLE = 10,   /* the row table holds fewer than 4T numbers */
     YAKUEMI_FILE = 11,    /* a malformed block file */
     YAKUEMI_ROOM = 12,    /* a lent table is too short for the block in the file */
-    YAKUEMI_UNIT = 13     /* the unit is not a number from 1/1048576 to 16 */
+    YAKUEMI_UNIT = 13,    /* the unit is not a number from 1/1048576 to 16 */
+    YAKUEMI_BAND = 14     /* the band is above 32767 */
 };
 
 /* The measures of a block. */
@@ -111,22 +123,27 @@ struct yakuemi_filled {
 };
 
 /*
- * Fills a block: moves the points that sit too near the skin, each onto the nearest cut, and writes the rows.
+ * Fills a block: moves the points that sit too near the skin, each onto the nearest cut, and writes the rows. Samples in the band count
+ * as zero; a band of 0 does without.
  *
  * Lengths: N samples, 7N cuts, N state bytes, and a row table of any length. What state and rows held before does not matter.
  *
  * Answers 0 with T and M: the state table is written whole, the first 4T numbers of the row table are the rows, and what follows
  * them stays as it was. Or, the first of these that applies:
  *
- *   1 to 4     sizes and lengths                               T, M, place 0      no table is written
+ *   1, 14      a size; the band                                T, M, place 0      no table is written
+ *   2, 3, 4    lengths                                         T, M, place 0      no table is written
  *   5          place: the lowest such point                    T, M 0             no table is written
  *   6 or 7     place: the offset of the lowest byte at fault   T, M 0             no table is written
  *   10         place 0                     T and M as with a longer table         state is written whole, rows stays as it was
  *
+ * 5, 6 and 7 read the samples as they are, whatever the band: a sample above zero on the rim is refused even if it is in the band, and
+ * so is a zero cut byte between samples of opposite signs.
+ *
  * To learn T, call it with a row table of length 0: the answer is 10 and says T (or 0, if T is 0). Or lend 12 times
  * the lattice tetrahedra, which always suffices.
  */
-struct yakuemi_filled yakuemi_fill(uint32_t nx, uint32_t ny, uint32_t nz,
+struct yakuemi_filled yakuemi_fill(uint32_t nx, uint32_t ny, uint32_t nz, uint32_t band,
                                    const int16_t *samples, size_t samples_len,
                                    const uint8_t *cuts, size_t cuts_len,
                                    uint8_t *state, size_t state_len,
@@ -144,7 +161,8 @@ struct yakuemi_placed {
  * Answers 0 with the place, for every id of the rows of a filled block. Or, with the place (0, 0, 0), the first of these
  * that applies: 1, 3, 4; 8 if the id is 8N or more, or is that of a cut whose edge does not exist, has byte 0 or has an end with
  * a non-zero state byte; 9 if the point's state byte is above 14, or names an edge that does not exist, has byte 0 or has its cut too far
- * from the point to move it. (A byte that names a cut near enough, though not the nearest, has its place.)
+ * from the point to move it. (The call reads no samples and takes no band, so it also answers a place for a byte that names a cut near
+ * enough but not the nearest, and for a cut beside a point in the band, which no row names.)
  */
 struct yakuemi_placed yakuemi_place(uint32_t nx, uint32_t ny, uint32_t nz,
                                     const uint8_t *cuts, size_t cuts_len,

@@ -25,9 +25,15 @@ static void given_case(void)
         cuts[crossed[i]] = 128;
 }
 
+static struct yakuemi_filled fill_banded(uint32_t band, uint32_t *rows, size_t length)
+{
+    return yakuemi_fill(SIZE, SIZE, SIZE, band, samples, POINTS, cuts, sizeof cuts, state, sizeof state, rows, length);
+}
+
+/* Without a noise band. */
 static struct yakuemi_filled fill(uint32_t *rows, size_t length)
 {
-    return yakuemi_fill(SIZE, SIZE, SIZE, samples, POINTS, cuts, sizeof cuts, state, sizeof state, rows, length);
+    return fill_banded(0, rows, length);
 }
 
 static void print_filled(const char *what, struct yakuemi_filled f)
@@ -71,6 +77,26 @@ static int fill_and_print(void)
         print_place_mm(rows[i], unit);
     free(rows);
     return EXIT_SUCCESS;
+}
+
+/*
+ * Noise bands. All samples are 5 or -5: out of a band of 4, but in a band of 5, where nothing is left to fill and no point moves, however
+ * near a cut is. Cut bytes and rim are tested by the samples as they are.
+ */
+static void print_bands(void)
+{
+    uint32_t rows[96];
+    print_filled("band 4", fill_banded(4, rows, 96));
+    print_filled("band 5", fill_banded(5, rows, 96));
+    cuts[91] = 63;
+    print_filled("band 5, byte 91 is 63", fill_banded(5, rows, 96));
+    cuts[91] = 0;
+    print_filled("band 5, byte 91 is zero", fill_banded(5, rows, 96));
+    cuts[91] = 128;
+    samples[27] = 1;
+    print_filled("band 5, sample 27 is 1", fill_banded(5, rows, 96));
+    samples[27] = -5;
+    print_filled("band 32768", fill_banded(32768, rows, 96));
 }
 
 /* The same block with one thing wrong at a time; each is put right again. */
@@ -151,6 +177,7 @@ int main(void)
     given_case();
     if (fill_and_print() != EXIT_SUCCESS)
         return EXIT_FAILURE;
+    print_bands();
     print_refusals();
     print_readings();
     return EXIT_SUCCESS;

@@ -1,27 +1,47 @@
 //! Tests that hold the proved library against the separate software: see `tests/`.
+use reference::block::Block;
 use reference::damage::Call;
 use reference::fill::Filled;
+use reference::generate::any_band;
+use reference::place::place;
 use reference::random::Random;
 
 pub mod mutations;
 
 /// The library's filling with the separate software's types, so that both take the same calls.
+#[allow(clippy::too_many_arguments)]
 pub fn fill(
     nx: u32,
     ny: u32,
     nz: u32,
+    band: u32,
     samples: &[i16],
     cuts: &[u8],
     state: &mut [u8],
     rows: &mut [u32],
 ) -> Filled {
-    let f = yakuemi::raw::fill([nx, ny, nz], samples, cuts, state, rows);
+    let f = yakuemi::raw::fill([nx, ny, nz], band, samples, cuts, state, rows);
     Filled {
         number: f.number,
         rows: f.rows,
         moved: f.moved,
         place: f.place,
     }
+}
+
+/// Band 0 for half of the blocks, any band for the others.
+pub fn zero_or_any_band(random: &mut Random, block: &Block) -> u32 {
+    if random.percent(50) {
+        0
+    } else {
+        any_band(random, block)
+    }
+}
+
+/// A call that is not refused, with a row table of just the right length, half of the time without a band.
+pub fn good_call(random: &mut Random, block: Block) -> Call {
+    let band = zero_or_any_band(random, &block);
+    Call::good(block, band, 0)
 }
 
 /// Noise in the cut and the state table of a block: bytes at the limits and beside them, codes and bytes that are none.
@@ -34,12 +54,32 @@ pub fn disturb(random: &mut Random, cuts: &mut [u8], state: &mut [u8]) {
     }
 }
 
-/// Makes a call of both fillings over the same noise: answer, state table and row table are the same. Answers the number.
-pub fn same_filling(call: &Call, seed: u64) -> u32 {
+/// Makes a call of both fillings over the same noise: answer, state table and row table are the same. Gives the answer.
+pub fn same_filling(call: &Call, seed: u64) -> Filled {
     let ours = call.run(fill, &mut Random::new(seed));
     let theirs = call.run(reference::fill::fill, &mut Random::new(seed));
     assert_eq!(ours.filled, theirs.filled, "seed {seed}");
     assert!(ours.state == theirs.state, "state tables differ, seed {seed}");
     assert!(ours.rows == theirs.rows, "row tables differ, seed {seed}");
-    ours.filled.number
+    ours.filled
+}
+
+/// An exact row table, a longer one, and one that is too short by one, for a call that has an exact one.
+pub fn three_tables(call: &mut Call, random: &mut Random) {
+    let exact = call.row_length;
+    assert_eq!(same_filling(call, random.bits()).number, 0);
+    call.row_length = exact + random.pick(&[1, 3, 4, 17]);
+    assert_eq!(same_filling(call, random.bits()).number, 0);
+    if exact > 0 {
+        call.row_length = exact - 1;
+        assert_eq!(same_filling(call, random.bits()).number, 10);
+    }
+}
+
+/// Asks both for the place of an id: number and place are the same. Gives the number.
+pub fn same_place(sizes: [u32; 3], cuts: &[u8], state: &[u8], id: u32) -> u32 {
+    let ours = yakuemi::raw::place(sizes, cuts, state, id);
+    let theirs = place(sizes[0], sizes[1], sizes[2], cuts, state, id);
+    assert_eq!((ours.number, ours.x, ours.y, ours.z), (theirs.number, theirs.x, theirs.y, theirs.z), "id {id}");
+    ours.number
 }

@@ -1,7 +1,7 @@
 //! Block files: the reader beside the separate software's, and the bench program itself, on document 01's cases and on mutations of bytes
 //! anywhere in valid files.
 use compare::mutations::{mutated, MUTATIONS};
-use compare::same_filling;
+use compare::{same_filling, zero_or_any_band};
 use reference::block::Block;
 use reference::blockfile::{bench_output, read, write};
 use reference::damage::Call;
@@ -85,9 +85,10 @@ fn mutated_files_are_read_and_filled_alike() {
         let file = mutated(&mut random, MUTATIONS[n % MUTATIONS.len()]);
         let number = match same_reading(&mut random, &file) {
             Ok(block) => {
+                let band = zero_or_any_band(&mut random, &block);
                 let state_length = block.samples.len();
                 let row_length = random.pick(&[ROWS, ROWS, 4, 0]);
-                same_filling(&Call { block, state_length, row_length }, random.bits())
+                same_filling(&Call { block, band, state_length, row_length }, random.bits()).number
             }
             Err(number) => number,
         };

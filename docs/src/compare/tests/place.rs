@@ -1,32 +1,25 @@
 //! The place of every id of filled blocks, and of ids over noise for state and cuts.
-use reference::damage::Call;
+use compare::same_place;
 use reference::generate::any_block;
-use reference::place::place;
 use reference::random::Random;
-
-fn same(sizes: [u32; 3], cuts: &[u8], state: &[u8], id: u32) -> u32 {
-    let ours = yakuemi::raw::place(sizes, cuts, state, id);
-    let theirs = place(sizes[0], sizes[1], sizes[2], cuts, state, id);
-    assert_eq!((ours.number, ours.x, ours.y, ours.z), (theirs.number, theirs.x, theirs.y, theirs.z), "id {id}");
-    ours.number
-}
 
 #[test]
 fn every_id_of_filled_blocks() {
     let mut random = Random::new(81);
     let mut placed = 0;
     for _ in 0..300 {
-        let call = Call::good(any_block(&mut random, 4), 0);
+        let block = any_block(&mut random, 4);
+        let call = compare::good_call(&mut random, block);
         let outcome = call.run(compare::fill, &mut random);
         let block = &call.block;
         let ids = 8 * block.samples.len() as u32;
         for id in (0..ids + 3).chain([u32::MAX]) {
-            if same(block.sizes, &block.cuts, &outcome.state, id) == 0 {
+            if same_place(block.sizes, &block.cuts, &outcome.state, id) == 0 {
                 placed += 1;
             }
         }
         for &id in &outcome.rows {
-            assert_eq!(same(block.sizes, &block.cuts, &outcome.state, id), 0);
+            assert_eq!(same_place(block.sizes, &block.cuts, &outcome.state, id), 0);
         }
     }
     assert!(placed > 10_000);
@@ -53,7 +46,7 @@ fn noise() {
             sizes[random.below(3)] = random.pick(&[0, 65]);
         }
         for id in 0..8 * n as u32 + 2 {
-            seen[same(sizes, &cuts, &state, id) as usize] += 1;
+            seen[same_place(sizes, &cuts, &state, id) as usize] += 1;
         }
     }
     for number in [0, 1, 3, 4, 8, 9] {

@@ -1,7 +1,6 @@
 //! Places in millimetres: the number and the bits of the point, for every id of filled blocks, for units of all bit patterns and for
 //! damaged calls. Units are bit patterns here, so that each NaN and each zero is itself.
 use reference::block::Block;
-use reference::damage::Call;
 use reference::generate::{any_block, block, CUTTINGS, MIXES};
 use reference::metric::{place_mm, place_mm_plain};
 use reference::random::Random;
@@ -52,7 +51,7 @@ struct Tables {
 impl Tables {
     /// A block with the state table that filling it leaves, and the ids of its rows.
     fn filled(block: Block, random: &mut Random) -> (Tables, Vec<u32>) {
-        let call = Call::good(block, 0);
+        let call = compare::good_call(random, block);
         let outcome = call.run(compare::fill, random);
         let Block { sizes, cuts, .. } = call.block;
         (Tables { sizes, cuts, state: outcome.state }, outcome.rows)

@@ -37,16 +37,16 @@ pub struct Filled {
     pub rows: Vec<u32>,
 }
 
-/// Fills a block: asks how many rows it has, then lends a table of just that length.
-pub fn fill(block: &Block) -> Result<Filled, Refusal> {
+/// Fills a block with a noise band: asks how many rows it has, then lends a table of just that length.
+pub fn fill(block: &Block, band: u32) -> Result<Filled, Refusal> {
     let mut state = vec![0; block.samples.len()];
     let mut rows = Vec::new();
-    if let Err(refusal) = yakuemi::fill(block.sizes, &block.samples, &block.cuts, &mut state, &mut rows) {
+    if let Err(refusal) = yakuemi::fill(block.sizes, band, &block.samples, &block.cuts, &mut state, &mut rows) {
         let Refusal::Table { rows: count, .. } = refusal else {
             return Err(refusal);
         };
         rows = vec![0; 4 * count as usize];
-        yakuemi::fill(block.sizes, &block.samples, &block.cuts, &mut state, &mut rows)?;
+        yakuemi::fill(block.sizes, band, &block.samples, &block.cuts, &mut state, &mut rows)?;
     }
     Ok(Filled { state, rows })
 }
@@ -69,8 +69,8 @@ pub fn mesh(block: &Block, filled: &Filled, unit: f64) -> Result<Mesh, Refusal> 
     Ok(Mesh { nodes, elements })
 }
 
-/// The mesh of a block file at a unit.
-pub fn mesh_of_file(file: &[u8], unit: f64) -> Result<Mesh, Refusal> {
+/// The mesh of a block file with a noise band, at a unit.
+pub fn mesh_of_file(file: &[u8], band: u32, unit: f64) -> Result<Mesh, Refusal> {
     let block = read(file)?;
-    mesh(&block, &fill(&block)?, unit)
+    mesh(&block, &fill(&block, band)?, unit)
 }

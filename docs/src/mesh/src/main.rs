@@ -3,20 +3,22 @@
 use mesh::{abaqus, block, gmsh, picture, png, view, vtk, Mesh, CUBES};
 use std::error::Error;
 use std::fs;
+use std::num::IntErrorKind;
 use std::process::ExitCode;
 
 const USAGE: &str = "\
 usage: mesh FILE OUT           a block file's mesh in cubes, as OUT.vtk, OUT.msh (Gmsh 2.2) and OUT.inp (C3D4)
        mesh --unit MM FILE OUT the same in millimetres; MM is the millimetres per step, a 512th of a cube's side
-       mesh --part FILE        writes the block file of a part to try: an engine mount
        mesh --picture FILE PNG a picture of a block file's mesh, cut open
-A block or a unit that the library refuses is answered with `refused`, number and place, and exit code 1.
+       mesh --part FILE        writes the block file of a part to try: an engine mount
+With --band N before FILE, samples of size N or less count as zero: N is the scanner's flicker, 0 to 32767.
+A block, a band or a unit that the library refuses is answered with `refused`, number and place, and exit code 1.
 ";
 
 fn main() -> ExitCode {
     let arguments: Vec<String> = std::env::args().skip(1).collect();
     let arguments: Vec<&str> = arguments.iter().map(String::as_str).collect();
-    let Some(done) = carry_out(&arguments) else {
+    let Some(done) = carry_out(&arguments, Options::default()) else {
         eprint!("{USAGE}");
         return ExitCode::from(2);
     };
@@ -35,23 +37,44 @@ fn main() -> ExitCode {
 
 type Done = Result<String, Box<dyn Error>>;
 
-/// Does what the arguments say; none if they say nothing that the usage has.
-fn carry_out(arguments: &[&str]) -> Option<Done> {
+/// What the options say.
+#[derive(Clone, Copy, Default, PartialEq)]
+struct Options {
+    band: Option<u32>,
+    unit: Option<f64>,
+    picture: bool,
+}
+
+/// Does what the arguments say, after these options; none if they say nothing that the usage has. Options come in any order, each once.
+fn carry_out(arguments: &[&str], said: Options) -> Option<Done> {
+    let Options { band, unit, picture } = said;
     match *arguments {
-        ["--part", file] => Some(write_part(file)),
-        ["--picture", file, png] => Some(write_picture(file, png)),
-        ["--unit", unit, file, out] if !file.starts_with('-') => Some(write_mesh(file, out, unit.parse().ok()?)),
-        [file, out] if !file.starts_with('-') => Some(write_mesh(file, out, CUBES)),
+        ["--part", file] if said == Options::default() => Some(write_part(file)),
+        ["--band", number, ref rest @ ..] if band.is_none() => carry_out(rest, Options { band: Some(band_of(number)?), ..said }),
+        ["--unit", number, ref rest @ ..] if unit.is_none() => carry_out(rest, Options { unit: Some(number.parse().ok()?), ..said }),
+        ["--picture", ref rest @ ..] if !picture => carry_out(rest, Options { picture: true, ..said }),
+        [file, _] if file.starts_with('-') => None,
+        [file, png] if picture && unit.is_none() => Some(write_picture(file, png, band.unwrap_or(0))),
+        [file, out] if !picture => Some(write_mesh(file, out, band.unwrap_or(0), unit.unwrap_or(CUBES))),
         _ => None,
     }
 }
 
-fn read_mesh(file: &str, unit: f64) -> Result<Mesh, Box<dyn Error>> {
-    Ok(block::mesh_of_file(&fs::read(file)?, unit)?)
+/// A band as it is handed on. Whether it is too large is for the library to say, and a number that 32 bits do not hold surely is.
+fn band_of(number: &str) -> Option<u32> {
+    match number.parse() {
+        Ok(band) => Some(band),
+        Err(error) if *error.kind() == IntErrorKind::PosOverflow => Some(u32::MAX),
+        Err(_) => None,
+    }
 }
 
-fn write_mesh(file: &str, out: &str, unit: f64) -> Done {
-    let mesh = read_mesh(file, unit)?;
+fn read_mesh(file: &str, band: u32, unit: f64) -> Result<Mesh, Box<dyn Error>> {
+    Ok(block::mesh_of_file(&fs::read(file)?, band, unit)?)
+}
+
+fn write_mesh(file: &str, out: &str, band: u32, unit: f64) -> Done {
+    let mesh = read_mesh(file, band, unit)?;
     fs::write(format!("{out}.vtk"), vtk::write(&mesh))?;
     fs::write(format!("{out}.msh"), gmsh::write(&mesh))?;
     fs::write(format!("{out}.inp"), abaqus::write(&mesh))?;
@@ -65,8 +88,8 @@ fn write_part(file: &str) -> Done {
     Ok(format!("{} bytes", bytes.len()))
 }
 
-fn write_picture(file: &str, png: &str) -> Done {
-    let mesh = read_mesh(file, CUBES)?;
+fn write_picture(file: &str, png: &str, band: u32) -> Done {
+    let mesh = read_mesh(file, band, CUBES)?;
     let faces = view::cut_open(&mesh, view::quarter_away(&mesh));
     fs::write(png, png::write(&picture::draw(&faces)))?;
     Ok(format!("{} faces", faces.len()))

@@ -3,15 +3,15 @@
 use mesh::{abaqus, block, gmsh, vtk, Mesh, Point, CUBES};
 use reference::block::Block;
 use reference::blockfile::{fill_block, write};
-use reference::generate::{any_block, block, CUTTINGS, MIXES};
+use reference::generate::{any_band, any_block, block, wide_band, CUTTINGS, MIXES};
 use reference::random::Random;
-use reference::shapes::{mount, sphere};
+use reference::shapes::{mount, sphere, tenth_band};
 use std::collections::{BTreeSet, HashSet};
 
 /// Checks one block in cubes through all three formats and answers its mesh.
-fn checked(given: &Block) -> Mesh {
-    let mesh = block::mesh_of_file(&write(given).unwrap(), CUBES).unwrap();
-    let rows = fill_block(given).rows;
+fn checked(given: &Block, band: u32) -> Mesh {
+    let mesh = block::mesh_of_file(&write(given).unwrap(), band, CUBES).unwrap();
+    let rows = fill_block(given, band).rows;
     assert_eq!(mesh.elements.len(), rows.len() / 4);
     assert_eq!(mesh.nodes.len(), rows.iter().collect::<HashSet<_>>().len());
     let formats = [vtk::read(&vtk::write(&mesh)), gmsh::read(&gmsh::write(&mesh)), abaqus::read(&abaqus::write(&mesh))];
@@ -28,8 +28,20 @@ fn checked(given: &Block) -> Mesh {
 #[test]
 fn small_blocks() {
     let mut random = Random::new(91);
-    let filled = (0..400).filter(|_| !checked(&any_block(&mut random, 5)).elements.is_empty());
+    let filled = (0..400).filter(|_| !checked(&any_block(&mut random, 5), 0).elements.is_empty());
     assert!(filled.count() > 100);
+}
+
+#[test]
+fn small_blocks_with_a_band() {
+    let mut random = Random::new(95);
+    let mut filled = 0;
+    for n in 0..200 {
+        let given = any_block(&mut random, 5);
+        let band = [any_band, wide_band][n % 2](&mut random, &given);
+        filled += usize::from(!checked(&given, band).elements.is_empty());
+    }
+    assert!(filled > 50, "{filled}");
 }
 
 #[test]
@@ -37,33 +49,34 @@ fn long_blocks() {
     let mut random = Random::new(92);
     for sizes in [[64, 3, 4], [3, 64, 4], [4, 3, 64], [20, 20, 20], [64, 1, 1]] {
         let (mix, cutting) = (random.pick(&MIXES), random.pick(&CUTTINGS));
-        checked(&block(&mut random, sizes, mix, cutting));
+        checked(&block(&mut random, sizes, mix, cutting), 0);
     }
 }
 
 #[test]
 fn the_mount() {
-    let mesh = checked(&mount());
-    assert!(mesh.elements.len() > 50_000);
+    let (mount, band) = (mount(), tenth_band(&mount()));
+    let [mesh, banded] = [0, band].map(|band| checked(&mount, band));
+    assert!(mesh.elements.len() > 50_000 && banded.elements.len() > 20_000);
 }
 
 /// 64 by 64 by 64 cubes, with the rows that the papers give for it.
 #[test]
 fn the_largest_sphere() {
-    let mesh = checked(&sphere());
+    let mesh = checked(&sphere(), 0);
     assert_eq!(mesh.elements.len(), 1_218_864);
 }
 
 /// The first row of document 01 (P1) and the fifteen nodes: the middle point, and the cuts of its fourteen edges.
 #[test]
 fn the_given_case_in_words() {
-    let in_steps = block::mesh_of_file(&write(&Block::given_case()).unwrap(), 1.0).unwrap();
+    let in_steps = block::mesh_of_file(&write(&Block::given_case()).unwrap(), 0, 1.0).unwrap();
     assert_eq!((in_steps.nodes.len(), in_steps.elements.len()), (15, 24));
     assert_eq!(in_steps.six_volume(in_steps.elements[0]), 8_388_608.0);
     let corners = in_steps.elements[0].map(|node| in_steps.nodes[node]);
     assert_eq!(corners, [[512.0, 512.0, 512.0], [512.0, 512.0, 256.0], [640.0, 384.0, 384.0], [384.0, 384.0, 384.0]]);
 
-    let mesh = checked(&Block::given_case());
+    let mesh = checked(&Block::given_case(), 0);
     assert_eq!(mesh.elements, in_steps.elements);
     let [a, b, c, d] = mesh.elements[0];
 
@@ -85,7 +98,7 @@ fn the_given_case_in_words() {
 
 #[test]
 fn a_swapped_element_would_be_seen() {
-    let mut mesh = checked(&Block::given_case());
+    let mut mesh = checked(&Block::given_case(), 0);
     mesh.elements[3].swap(2, 3);
     let read = vtk::read(&vtk::write(&mesh)).unwrap();
     assert!(read.six_volume(read.elements[3]) < 0.0);
@@ -103,7 +116,7 @@ fn bits(points: &[Point]) -> Vec<u64> {
 
 /// What the library answers for the nodes of a block, the ids of its rows in ascending order.
 fn answers(given: &Block, unit: f64) -> Vec<Point> {
-    let tables = fill_block(given);
+    let tables = fill_block(given, 0);
     let place = |id| yakuemi::place_mm(given.sizes, &given.cuts, &tables.state, id, unit).unwrap();
     BTreeSet::from_iter(tables.rows).into_iter().map(place).collect()
 }
@@ -130,7 +143,7 @@ fn is_itself(word: &str, number: f64) -> bool {
 /// Checks one block at one unit through all three formats and answers how many coordinates the input file has, and how many of
 /// them are not the numbers themselves.
 fn checked_at(given: &Block, unit: f64) -> [usize; 2] {
-    let mesh = block::mesh_of_file(&write(given).unwrap(), unit).unwrap();
+    let mesh = block::mesh_of_file(&write(given).unwrap(), 0, unit).unwrap();
     let answers = answers(given, unit);
     let input = abaqus::write(&mesh);
     let [vtk, gmsh, abaqus] = [vtk::read(&vtk::write(&mesh)), gmsh::read(&gmsh::write(&mesh)), abaqus::read(&input)].map(Option::unwrap);
@@ -162,11 +175,11 @@ fn millimetres() {
 #[test]
 fn cubes_are_places_over_512() {
     for given in [Block::given_case(), mount()] {
-        let tables = fill_block(&given);
+        let tables = fill_block(&given, 0);
         let place = |id| yakuemi::place(given.sizes, &given.cuts, &tables.state, id).unwrap();
         let places = BTreeSet::from_iter(tables.rows).into_iter().map(place);
         let cubes: Vec<Point> = places.map(|place| place.map(|steps| f64::from(steps) / 512.0)).collect();
-        assert_eq!(bits(&checked(&given).nodes), bits(&cubes));
+        assert_eq!(bits(&checked(&given, 0).nodes), bits(&cubes));
     }
 }
 

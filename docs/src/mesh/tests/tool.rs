@@ -1,7 +1,8 @@
 //! The tool itself: what it writes, what it prints, and how it ends.
-use mesh::{abaqus, block, gmsh, vtk, Mesh, CUBES};
+use mesh::{abaqus, block, gmsh, view, vtk, Mesh, CUBES};
 use reference::block::Block;
 use reference::blockfile::{fill_block, write};
+use reference::shapes::{mount, tenth_band};
 use std::collections::BTreeSet;
 use std::fs;
 use std::path::{Path, PathBuf};
@@ -32,7 +33,7 @@ fn writes_three_files_of_one_mesh() {
     let folder = folder("three");
     fs::write(folder.join("given"), write(&Block::given_case()).unwrap()).unwrap();
     assert_eq!(run(&folder, &["given", "out"]), ("15 nodes, 24 tetrahedra\n".to_string(), Some(0)));
-    let mesh = block::mesh_of_file(&fs::read(folder.join("given")).unwrap(), CUBES).unwrap();
+    let mesh = block::mesh_of_file(&fs::read(folder.join("given")).unwrap(), 0, CUBES).unwrap();
     for read in meshes(&folder) {
         assert_eq!(read, mesh);
     }
@@ -44,7 +45,7 @@ fn writes_millimetres() {
     let folder = folder("millimetres");
     let given = Block::given_case();
     fs::write(folder.join("given"), write(&given).unwrap()).unwrap();
-    let tables = fill_block(&given);
+    let tables = fill_block(&given, 0);
     let ids = BTreeSet::from_iter(tables.rows);
     for unit in ["0.1", "0.00390625", "9.5367431640625e-7", "16"] {
         assert_eq!(run(&folder, &["--unit", unit, "given", "out"]), ("15 nodes, 24 tetrahedra\n".to_string(), Some(0)));
@@ -73,6 +74,42 @@ fn writes_millimetres_in_words() {
     assert!(holds("out.vtk", "POINTS 15 double\n51.2 51.2 51.2\n"));
     assert!(holds("out.msh", "$Nodes\n15\n1 51.2 51.2 51.2\n"));
     assert!(holds("out.inp", "*NODE, NSET=NALL\n1, 51.2, 51.2, 51.2\n"));
+}
+
+/// The given case's samples are 5 and -5.
+#[test]
+fn fills_with_a_band() {
+    let folder = folder("band");
+    fs::write(folder.join("given"), write(&Block::given_case()).unwrap()).unwrap();
+    for (band, line) in [("0", "15 nodes, 24"), ("4", "15 nodes, 24"), ("5", "0 nodes, 0"), ("32767", "0 nodes, 0")] {
+        let line = format!("{line} tetrahedra\n");
+        assert_eq!(run(&folder, &["--band", band, "given", "out"]), (line, Some(0)), "{band}");
+    }
+}
+
+/// The mount with a tenth of its points in the band: the files hold that filling, in cubes and, whichever option comes first, in
+/// millimetres.
+#[test]
+fn fills_a_part_with_a_band() {
+    let folder = folder("banded");
+    let (mount, file) = (mount(), write(&mount()).unwrap());
+    let band = tenth_band(&mount);
+    let tables = fill_block(&mount, band);
+    assert!(tables.rows != fill_block(&mount, 0).rows);
+    let nodes = BTreeSet::from_iter(&tables.rows).len();
+    let line = format!("{nodes} nodes, {} tetrahedra\n", tables.rows.len() / 4);
+    fs::write(folder.join("mount"), &file).unwrap();
+    let (said, mm) = (&band.to_string()[..], 0.00390625);
+    let runs: [(&[&str], f64); 3] = [
+        (&["--band", said, "mount", "out"], CUBES),
+        (&["--band", said, "--unit", "0.00390625", "mount", "out"], mm),
+        (&["--unit", "0.00390625", "--band", said, "mount", "out"], mm),
+    ];
+    for (arguments, unit) in runs {
+        assert_eq!(run(&folder, arguments), (line.clone(), Some(0)), "{arguments:?}");
+        let mesh = block::mesh_of_file(&file, band, unit).unwrap();
+        assert!(meshes(&folder).iter().all(|read| *read == mesh), "{arguments:?}");
+    }
 }
 
 #[test]
@@ -127,11 +164,41 @@ fn says_that_a_unit_is_refused_and_writes_nothing() {
     assert_eq!(fs::read_dir(&folder).unwrap().count(), 4);
 }
 
+/// Bands that the library refuses, also those that 32 bits do not hold. What is wrong with the file comes first; with its samples, its
+/// cut bytes or the unit, later.
+#[test]
+fn says_that_a_band_is_refused_and_writes_nothing() {
+    let folder = folder("no band");
+    let given = Block::given_case();
+    let mut gap = given.clone();
+    gap.cuts[91] = 0;
+    let files = [(write(&given).unwrap(), "refused 14 0\n"), (write(&gap).unwrap(), "refused 14 0\n"), (vec![2, 2], "refused 11 0\n")];
+    for (file, line) in files {
+        fs::write(folder.join("file"), file).unwrap();
+        for band in ["32768", "65536", "4294967295", "4294967296", "4294967301", "18446744073709551616"] {
+            let ways: [&[&str]; 4] = [
+                &["--band", band, "file", "out"],
+                &["--band", band, "--unit", "0", "file", "out"],
+                &["--band", band, "--picture", "file", "out"],
+                &["--picture", "--band", band, "file", "out"],
+            ];
+            for arguments in ways {
+                assert_eq!(run(&folder, arguments), (line.to_string(), Some(1)), "{arguments:?}");
+            }
+        }
+    }
+    fs::write(folder.join("file"), write(&gap).unwrap()).unwrap();
+    assert_eq!(run(&folder, &["--band", "5", "file", "out"]), ("refused 6 91\n".to_string(), Some(1)));
+    fs::write(folder.join("file"), write(&given).unwrap()).unwrap();
+    assert_eq!(run(&folder, &["--unit", "0", "--band", "5", "file", "out"]), ("refused 13 0\n".to_string(), Some(1)));
+    assert_eq!(fs::read_dir(&folder).unwrap().count(), 1);
+}
+
 #[test]
 fn says_how_it_is_used_and_writes_nothing() {
     let folder = folder("usage");
     fs::write(folder.join("file"), write(&Block::given_case()).unwrap()).unwrap();
-    let wrong: [&[&str]; 13] = [
+    let wrong: [&[&str]; 28] = [
         &[],
         &["file"],
         &["file", "out", "more"],
@@ -145,6 +212,21 @@ fn says_how_it_is_used_and_writes_nothing() {
         &["--unit", "0.1mm", "file", "out"],
         &["--unit", "1/512", "file", "out"],
         &["file", "out", "--unit", "0.1"],
+        &["--band"],
+        &["--band", "3"],
+        &["--band", "3", "file"],
+        &["--band", "3", "file", "out", "more"],
+        &["--band", "", "file", "out"],
+        &["--band", "x", "file", "out"],
+        &["--band", "-1", "file", "out"],
+        &["--band", "3.0", "file", "out"],
+        &["--band", "--unit", "0.1", "file", "out"],
+        &["--band", "3", "--band", "3", "file", "out"],
+        &["--unit", "0.1", "--unit", "0.1", "file", "out"],
+        &["--band", "3", "--part", "out"],
+        &["--picture", "--unit", "0.1", "file", "out"],
+        &["--picture", "--band", "3", "file"],
+        &["file", "out", "--band", "3"],
     ];
     for arguments in wrong {
         assert_eq!(run(&folder, arguments), (String::new(), Some(2)), "{arguments:?}");
@@ -160,4 +242,19 @@ fn the_picture_is_the_tools_own() {
     assert_eq!(run(&folder, &["--picture", "mount", "mesh.png"]).1, Some(0));
     let kept = PathBuf::from(env!("CARGO_MANIFEST_DIR")).join("../../mesh.png");
     assert!(fs::read(folder.join("mesh.png")).unwrap() == fs::read(kept).unwrap());
+}
+
+/// A picture of the part as filled with a band.
+#[test]
+fn draws_with_a_band() {
+    let folder = folder("banded picture");
+    let (mount, file) = (mount(), write(&mount()).unwrap());
+    let band = tenth_band(&mount);
+    let mesh = block::mesh_of_file(&file, band, CUBES).unwrap();
+    let line = format!("{} faces\n", view::cut_open(&mesh, view::quarter_away(&mesh)).len());
+    fs::write(folder.join("mount"), &file).unwrap();
+    let arguments = ["--picture", "--band", &band.to_string(), "mount", "banded.png"];
+    assert_eq!(run(&folder, &arguments), (line, Some(0)));
+    let kept = PathBuf::from(env!("CARGO_MANIFEST_DIR")).join("../../mesh.png");
+    assert!(fs::read(folder.join("banded.png")).unwrap() != fs::read(kept).unwrap());
 }

@@ -1,5 +1,6 @@
 //! The calls: accepted ones of many shapes, and one or more for each refusal.
 
+use crate::BAND;
 use reference::block::Block;
 use reference::damage::{Call, Damage};
 use reference::generate::{block, Cutting, Mix};
@@ -41,7 +42,7 @@ fn accepted(&(sizes, mix, cutting, seed): &Shape) -> (String, Call) {
     let block = block(&mut Random::new(seed), sizes, mix, cutting);
     let [nx, ny, nz] = sizes;
     let title = format!("{nx} by {ny} by {nz}, labels {mix:?}, cut bytes {cutting:?}");
-    (title, Call::good(block, 3))
+    (title, Call::good(block, BAND, 3))
 }
 
 /// Damages done to the given case one after the other, and a seed.
@@ -63,7 +64,7 @@ const REFUSED: [(&[Damage], u64); 12] = [
 fn refused(&(damages, seed): &(&[Damage], u64)) -> (String, Call) {
     let block = Block::given_case();
     let lattice = block.lattice().expect("allowed sizes");
-    let mut call = Call::good(block, 0);
+    let mut call = Call::good(block, BAND, 0);
     for &damage in damages {
         assert!(call.damage(&mut Random::new(seed), &lattice, damage));
     }

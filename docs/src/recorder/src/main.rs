@@ -14,6 +14,9 @@ use reference::place::{place, Placed};
 use reference::{fill, plain};
 use std::io::Write;
 
+/// The band of every recorded filling: document 02 has the programs use 0.
+const BAND: u32 = 0;
+
 /// What the lent tables hold before a call.
 const LENT_STATE: u8 = 99;
 const LENT_ROW: u32 = 999_999;
@@ -50,12 +53,13 @@ fn written() -> String {
 
 /// Makes the call with both fillings of the reference, which must agree.
 fn run(call: &Call, lent_state: u8, lent_row: u32) -> Outcome {
+    assert_eq!(call.band, BAND, "no record holds a band");
     let [nx, ny, nz] = call.block.sizes;
     let (samples, cuts) = (&call.block.samples, &call.block.cuts);
     let [fast, plain] = [fill::fill, plain::fill].map(|filling| {
         let mut state = vec![lent_state; call.state_length];
         let mut rows = vec![lent_row; call.row_length];
-        let filled = filling(nx, ny, nz, samples, cuts, &mut state, &mut rows);
+        let filled = filling(nx, ny, nz, call.band, samples, cuts, &mut state, &mut rows);
         Outcome {
             filled,
             state,

@@ -2,6 +2,7 @@
 //! request F-1 on the given case. Units and coordinates are bit patterns, and
 //! the answers those of the reference's way without floats.
 
+use crate::BAND;
 use reference::block::Block;
 use reference::blockfile::fill_block;
 use reference::metric::place_mm_plain;
@@ -17,7 +18,7 @@ struct Question {
 /// The whole file.
 pub fn file() -> String {
     let block = Block::given_case();
-    let state = fill_block(&block).state;
+    let state = fill_block(&block, BAND).state;
     let entries = questions()
         .iter()
         .map(|question| recorded(&block, &state, question))

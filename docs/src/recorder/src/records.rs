@@ -2,7 +2,7 @@
 //! record is a head of twelve numbers, four bytes each, low byte first, and a
 //! body; crates/replay/specs/program says what they mean.
 
-use crate::run;
+use crate::{run, BAND};
 use reference::block::Block;
 use reference::blockfile::{read, write, BENCH_SIZE};
 use reference::damage::{Call, Damage, DAMAGES};
@@ -35,7 +35,7 @@ pub fn file() -> Vec<u8> {
     let mut random = Random::new(20_261_115);
     let given = |row_length| Call {
         row_length,
-        ..Call::good(Block::given_case(), 0)
+        ..Call::good(Block::given_case(), BAND, 0)
     };
     let mut calls = vec![given(95), given(96)];
     calls.extend((0..BLOCKS).map(|n| drawn(&mut random, n)));
@@ -75,7 +75,7 @@ fn drawn(random: &mut Random, n: usize) -> Call {
     };
     let mix = MIXES[n % MIXES.len()];
     let cutting = CUTTINGS[n / MIXES.len() % CUTTINGS.len()];
-    let mut call = Call::good(block(random, sizes, mix, cutting), 0);
+    let mut call = Call::good(block(random, sizes, mix, cutting), BAND, 0);
     match random.below(4) {
         0 if call.row_length > 0 => call.row_length -= 1,
         1 => call.row_length += random.below(9),
@@ -84,12 +84,15 @@ fn drawn(random: &mut Random, n: usize) -> Call {
     call
 }
 
-/// Each damage alone on several blocks, then each two of them.
+/// Each damage alone on several blocks, then each two of them. The band stays
+/// whole.
 fn damaged(random: &mut Random) -> Vec<Call> {
-    let alone = DAMAGES.iter().flat_map(|&damage| vec![vec![damage]; 6]);
+    let mut damages = DAMAGES.to_vec();
+    damages.retain(|&damage| damage != Damage::Band);
+    let alone = damages.iter().flat_map(|&damage| vec![vec![damage]; 6]);
     let mut lists: Vec<Vec<Damage>> = alone.collect();
-    for (n, &one) in DAMAGES.iter().enumerate() {
-        lists.extend(DAMAGES[n + 1..].iter().map(|&other| vec![one, other]));
+    for (n, &one) in damages.iter().enumerate() {
+        lists.extend(damages[n + 1..].iter().map(|&other| vec![one, other]));
     }
     lists.iter().map(|list| spoilt(random, list)).collect()
 }
@@ -99,7 +102,7 @@ fn spoilt(random: &mut Random, damages: &[Damage]) -> Call {
     loop {
         let sizes = [0; 3].map(|_| random.between(2, 4) as u32);
         let (mix, cutting) = (random.pick(&MIXES), random.pick(&CUTTINGS));
-        let mut call = Call::good(block(random, sizes, mix, cutting), 0);
+        let mut call = Call::good(block(random, sizes, mix, cutting), BAND, 0);
         let lattice = call.block.lattice().expect("allowed sizes");
         let mut done = damages
             .iter()

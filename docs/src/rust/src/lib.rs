@@ -15,12 +15,12 @@
 //! }
 //! let mut state = vec![0; n];
 //!
-//! // with no room at all the answer says how many rows there are
-//! let asked = fill(sizes, &samples, &cuts, &mut state, &mut []);
+//! // with no noise band and no room at all; the answer says how many rows there are
+//! let asked = fill(sizes, 0, &samples, &cuts, &mut state, &mut []);
 //! assert_eq!(asked, Err(Refusal::Table { rows: 24, moved: 0 }));
 //!
 //! let mut rows = vec![0; 4 * 24];
-//! let filling = fill(sizes, &samples, &cuts, &mut state, &mut rows)?;
+//! let filling = fill(sizes, 0, &samples, &cuts, &mut state, &mut rows)?;
 //! assert_eq!((filling.rows, filling.moved), (24, 0));
 //! assert_eq!(rows[..4], [13, 65, 235, 227]);
 //! assert_eq!(place(sizes, &cuts, &state, 65)?, [512, 512, 256]);
@@ -29,8 +29,13 @@
 //! assert_eq!(place_mm(sizes, &cuts, &state, 65, 2.0 / 512.0)?, [2.0, 2.0, 1.0]);
 //! assert_eq!(place_mm(sizes, &cuts, &state, 65, 0.0), Err(Refusal::Unit));
 //!
+//! // in a band of 5 all these samples count as zero, and nothing is left to fill
+//! let filling = fill(sizes, 5, &samples, &cuts, &mut state, &mut rows)?;
+//! assert_eq!((filling.rows, filling.moved), (0, 0));
+//! assert_eq!(fill(sizes, 32_768, &samples, &cuts, &mut state, &mut rows), Err(Refusal::Band));
+//!
 //! cuts[91] = 0;
-//! let refusal = fill(sizes, &samples, &cuts, &mut state, &mut rows).unwrap_err();
+//! let refusal = fill(sizes, 0, &samples, &cuts, &mut state, &mut rows).unwrap_err();
 //! assert_eq!(refusal, Refusal::Gap(91));
 //! assert_eq!(refusal.to_string(), "refused 6 91");
 //! # Ok::<(), Refusal>(())
@@ -109,6 +114,7 @@ pub mod raw {
                 nx: u32,
                 ny: u32,
                 nz: u32,
+                band: u32,
                 samples: *const i16,
                 samples_len: usize,
                 cuts: *const u8,
@@ -158,13 +164,14 @@ pub mod raw {
     }
 
     /// Filling a block, into tables that the caller lends.
-    pub fn fill(sizes: [u32; 3], samples: &[i16], cuts: &[u8], state: &mut [u8], rows: &mut [u32]) -> Filled {
+    pub fn fill(sizes: [u32; 3], band: u32, samples: &[i16], cuts: &[u8], state: &mut [u8], rows: &mut [u32]) -> Filled {
         let [nx, ny, nz] = sizes;
         unsafe {
             c::yakuemi_fill(
                 nx,
                 ny,
                 nz,
+                band,
                 samples.as_ptr(),
                 samples.len(),
                 cuts.as_ptr(),
@@ -233,6 +240,8 @@ pub enum Refusal {
     Room,
     /// 13: the unit is not a number from 1/1048576 to 16.
     Unit,
+    /// 14: the band is above 32767.
+    Band,
     /// A number that the called function does not give.
     Other(u32),
 }
@@ -254,6 +263,7 @@ impl Refusal {
             Refusal::File => 11,
             Refusal::Room => 12,
             Refusal::Unit => 13,
+            Refusal::Band => 14,
             Refusal::Other(number) => number,
         }
     }
@@ -315,8 +325,19 @@ pub fn measures(sizes: [u32; 3]) -> Result<Measures, Refusal> {
 
 /// Fills a block: N samples, 7N cut bytes, N state bytes, and a row table of any length. Points that sit too near the skin move, each onto the
 /// nearest cut.
-pub fn fill(sizes: [u32; 3], samples: &[i16], cuts: &[u8], state: &mut [u8], rows: &mut [u32]) -> Result<Filling, Refusal> {
-    let f = raw::fill(sizes, samples, cuts, state, rows);
+///
+/// The band is 0 to 32767. A sample whose size is at most the band counts as zero: its point lies on the skin and does not move, and no cut
+/// beside it is used. Take the largest size of the scanner's flicker, or 0 for none; with more, rubber whose samples are in the band is
+/// left out. Whether a block is refused for its rim or its cut bytes does not depend on the band.
+pub fn fill(
+    sizes: [u32; 3],
+    band: u32,
+    samples: &[i16],
+    cuts: &[u8],
+    state: &mut [u8],
+    rows: &mut [u32],
+) -> Result<Filling, Refusal> {
+    let f = raw::fill(sizes, band, samples, cuts, state, rows);
     match f.number {
         0 => Ok(Filling { rows: f.rows, moved: f.moved }),
         1 => Err(Refusal::Size),
@@ -327,6 +348,7 @@ pub fn fill(sizes: [u32; 3], samples: &[i16], cuts: &[u8], state: &mut [u8], row
         6 => Err(Refusal::Gap(f.place)),
         7 => Err(Refusal::Stray(f.place)),
         10 => Err(Refusal::Table { rows: f.rows, moved: f.moved }),
+        14 => Err(Refusal::Band),
         n => Err(Refusal::Other(n)),
     }
 }

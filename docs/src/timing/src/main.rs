@@ -1,10 +1,11 @@
 //! Times filling, and places in millimetres, beside the separate software: the same blocks, tables and process, turn and turn about.
 //! Tables are lent as the call before left them; the first call of each is not counted. Prints the best and the middle of the times.
+//! `sphere+` is the sphere with a band that takes in a tenth of its points; the others have band 0.
 use reference::block::Block;
 use reference::blockfile::fill_block;
 use reference::damage::Filling;
 use reference::metric::place_mm;
-use reference::shapes::{air, ribs, sphere};
+use reference::shapes::{air, ribs, sphere, tenth_band};
 use std::time::Instant;
 
 const TURNS: usize = 25;
@@ -22,22 +23,22 @@ fn times(mut all: Vec<f64>) -> Times {
     }
 }
 
-fn once(filling: Filling, block: &Block, state: &mut [u8], rows: &mut [u32]) -> (f64, u64) {
+fn once(filling: Filling, block: &Block, band: u32, state: &mut [u8], rows: &mut [u32]) -> (f64, u64) {
     let [nx, ny, nz] = block.sizes;
     let began = Instant::now();
-    let filled = filling(nx, ny, nz, &block.samples, &block.cuts, state, rows);
+    let filled = filling(nx, ny, nz, band, &block.samples, &block.cuts, state, rows);
     let took = began.elapsed().as_secs_f64() * 1000.0;
     assert_eq!(filled.number, 0);
     (took, filled.rows)
 }
 
-fn compare_on(name: &str, block: &Block) {
+fn compare_on(name: &str, block: &Block, band: u32) {
     let mut state = vec![0; block.samples.len()];
     let mut rows = vec![0; 8_000_000];
     let (mut ours, mut theirs, mut count) = (Vec::new(), Vec::new(), 0);
     for turn in 0..=TURNS {
-        let (a, n) = once(compare::fill, block, &mut state, &mut rows);
-        let (b, _) = once(reference::fill::fill, block, &mut state, &mut rows);
+        let (a, n) = once(compare::fill, block, band, &mut state, &mut rows);
+        let (b, _) = once(reference::fill::fill, block, band, &mut state, &mut rows);
         count = n;
         if turn > 0 {
             ours.push(a);
@@ -46,15 +47,16 @@ fn compare_on(name: &str, block: &Block) {
     }
     let (a, b) = (times(ours), times(theirs));
     let rate = |t: f64| count as f64 / t;
+    let said = if band > 0 { format!(" | band {band}") } else { String::new() };
     println!(
-        "{name:7} {count:9} rows | library {:7.2} ms best, {:7.2} middle, {:9.0} rows/ms | separate {:7.2} ms best, {:7.2} middle, {:9.0} rows/ms | ratio {:.2}",
+        "{name:7} {count:9} rows | library {:7.2} ms best, {:7.2} middle, {:9.0} rows/ms | separate {:7.2} ms best, {:7.2} middle, {:9.0} rows/ms | ratio {:.2}{said}",
         a.best, a.middle, rate(a.best), b.best, b.middle, rate(b.best), a.best / b.best
     );
 }
 
 /// The place in millimetres of each id that the rows of a block name, for cubes of 2 mm. The sum of all answers is what is compared.
 fn compare_places_of(name: &str, block: &Block) {
-    let (tables, [nx, ny, nz]) = (fill_block(block), block.sizes);
+    let (tables, [nx, ny, nz]) = (fill_block(block, 0), block.sizes);
     let (mut ids, unit) = (tables.rows, 2.0 / 512.0);
     ids.sort_unstable();
     ids.dedup();
@@ -87,8 +89,10 @@ fn compare_places_of(name: &str, block: &Block) {
 }
 
 fn main() {
-    compare_on("sphere", &sphere());
-    compare_on("air", &air());
-    compare_on("ribs", &ribs());
-    compare_places_of("sphere", &sphere());
+    let sphere = sphere();
+    compare_on("sphere", &sphere, 0);
+    compare_on("air", &air(), 0);
+    compare_on("ribs", &ribs(), 0);
+    compare_on("sphere+", &sphere, tenth_band(&sphere));
+    compare_places_of("sphere", &sphere);
 }

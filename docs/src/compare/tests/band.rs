@@ -1,0 +1,250 @@
+//! Filling with a band (request F-3): answer, state table and row table, bit for bit, on valid and damaged blocks and on whole parts. How
+//! many points are in the band though their samples are not zero is counted, and how many cuts beside them are not live.
+use compare::{same_filling, same_place, three_tables};
+use reference::block::Block;
+use reference::check::check_mesh;
+use reference::cut::{violation, End};
+use reference::damage::{Call, Damage, DAMAGES};
+use reference::fill::Filled;
+use reference::generate::{any_band, any_block, block, crowded_block, cuts_where_needed, flickering_block, wide_band, Cutting, MIXES};
+use reference::lattice::Lattice;
+use reference::plain::label;
+use reference::random::Random;
+use reference::shapes::{mount, ribs, sphere, tenth_band};
+
+/// A call with an exact row table, and its T and M: they are asked for, with no room at all.
+fn exact_call(block: Block, band: u32, random: &mut Random) -> (Call, Filled) {
+    let state_length = block.samples.len();
+    let mut call = Call { block, band, state_length, row_length: 0 };
+    let asked = same_filling(&call, random.bits());
+    call.row_length = 4 * asked.rows as usize;
+    (call, asked)
+}
+
+/// Whether a point is on the skin by the band alone.
+fn in_band(call: &Call, point: usize) -> bool {
+    let sample = call.block.samples[point];
+    sample != 0 && label(call.band, sample) == 0
+}
+
+/// The two ends of the edge that a cut byte belongs to, if it exists.
+fn ends(lattice: &Lattice, offset: usize) -> Option<[usize; 2]> {
+    let start = offset / 7;
+    Some([start, lattice.end(start, offset % 7)?])
+}
+
+/// How often a band made a difference.
+#[derive(Debug, Default)]
+struct Met {
+    /// Points in the band whose samples are not zero.
+    points: usize,
+    /// Of these, points whose samples are just as large as the band.
+    border: usize,
+    /// Points with sample -32768, which are in no band, though 16 bits hold no size for them.
+    lowest: usize,
+    /// Cuts with an end in the band.
+    dead: usize,
+    /// Of these, cuts that would move their other end, which is not in the band.
+    near: usize,
+    /// Points that moved.
+    moved: u64,
+    /// Rows.
+    rows: u64,
+}
+
+impl Met {
+    fn count(&mut self, call: &Call, asked: Filled) {
+        let Block { samples, cuts, .. } = &call.block;
+        let lattice = call.block.lattice().unwrap();
+        for (point, sample) in samples.iter().enumerate() {
+            let size = u32::from(sample.unsigned_abs());
+            self.points += usize::from(in_band(call, point));
+            self.border += usize::from(in_band(call, point) && size == call.band);
+            self.lowest += usize::from(size == 32768 && call.band > 0);
+        }
+        for (offset, &t) in cuts.iter().enumerate().filter(|(_, &t)| t != 0) {
+            let ends_in_band = ends(&lattice, offset).unwrap().map(|point| in_band(call, point));
+            let moves = |end: End| usize::from(violation(t, offset % 7, end).is_some());
+            self.dead += usize::from(ends_in_band != [false, false]);
+            self.near += match ends_in_band {
+                [false, true] => moves(End::Start),
+                [true, false] => moves(End::Far),
+                _ => 0,
+            };
+        }
+        self.moved += asked.moved;
+        self.rows += asked.rows;
+    }
+}
+
+/// Compares 4,000 blocks, every second one with a wide band.
+fn banded_blocks(seed: u64, blocks: fn(&mut Random, u32) -> Block) {
+    let mut random = Random::new(seed);
+    let mut met = Met::default();
+    for n in 0..4000 {
+        let block = blocks(&mut random, 5);
+        let band = [any_band, wide_band][n % 2](&mut random, &block);
+        let (mut call, asked) = exact_call(block, band, &mut random);
+        met.count(&call, asked);
+        three_tables(&mut call, &mut random);
+    }
+    assert!(met.points > 200_000 && met.border > 10_000 && met.lowest > 10_000, "{met:?}");
+    assert!(met.dead > 200_000 && met.near > 20_000, "{met:?}");
+    assert!(met.moved > 15_000 && met.rows > 100_000, "{met:?}");
+}
+
+#[test]
+fn blocks_of_every_kind() {
+    banded_blocks(111, any_block);
+}
+
+/// Many cuts violate one point, some of them not live for the band.
+#[test]
+fn crowded_blocks() {
+    banded_blocks(112, crowded_block);
+}
+
+/// Samples of all orders of magnitude, and many that are almost the same.
+#[test]
+fn flickering_blocks() {
+    banded_blocks(113, flickering_block);
+}
+
+#[test]
+fn long_blocks() {
+    let mut random = Random::new(114);
+    for sizes in [[64, 3, 4], [3, 64, 4], [4, 3, 64], [33, 8, 5], [20, 20, 20]] {
+        for mix in MIXES {
+            for (n, cutting) in [Cutting::Wild, Cutting::Close].into_iter().enumerate() {
+                let block = block(&mut random, sizes, mix, cutting);
+                let band = [any_band, wide_band][n](&mut random, &block);
+                let (mut call, _) = exact_call(block, band, &mut random);
+                three_tables(&mut call, &mut random);
+            }
+        }
+    }
+}
+
+/// Parts of up to 64 by 64 by 64 cubes: long runs of rubber, of air and of points in the band.
+#[test]
+fn whole_parts() {
+    let mut random = Random::new(115);
+    for part in [sphere(), ribs(), mount()] {
+        for band in [3, 200, tenth_band(&part)] {
+            let (call, asked) = exact_call(part.clone(), band, &mut random);
+            assert!(asked.rows > 0);
+            assert_eq!(same_filling(&call, random.bits()), Filled { number: 0, ..asked });
+        }
+    }
+}
+
+/// The mount with the scanner's flicker: samples from -3 to 3 in plain air, two cubes from the rubber and more. On the rim none is above
+/// zero.
+fn flickering_mount(random: &mut Random) -> Block {
+    let Block { sizes, mut samples, cuts: clean } = mount();
+    let lattice = Lattice::new(sizes[0], sizes[1], sizes[2]).unwrap();
+    for (point, sample) in samples.iter_mut().enumerate().filter(|(_, sample)| **sample < -1024) {
+        *sample = random.between(-3, if lattice.is_rim(point) { 0 } else { 3 }) as i16;
+    }
+    let mut cuts = cuts_where_needed(&lattice, &samples, |_, _| random.between(1, 255) as u8);
+    for (cut, &kept) in cuts.iter_mut().zip(&clean).filter(|(_, &kept)| kept != 0) {
+        *cut = kept;
+    }
+    Block { sizes, samples, cuts }
+}
+
+/// What the request is for: without a band the flicker is filled like rubber, and a band of 3 leaves the part alone.
+#[test]
+fn flicker_in_plain_air() {
+    let mut random = Random::new(116);
+    let block = flickering_mount(&mut random);
+    let [raw, two, three] = [0, 2, 3].map(|band| exact_call(block.clone(), band, &mut random).0);
+    assert!(raw.row_length > two.row_length && two.row_length > three.row_length);
+    let (clean, _) = exact_call(mount(), 3, &mut random);
+    let [flickering, clean] = [three, clean].map(|call| call.run(compare::fill, &mut Random::new(1)));
+    assert_eq!((flickering.filled.number, flickering.filled), (0, clean.filled));
+    assert!(flickering.state == clean.state && flickering.rows == clean.rows);
+}
+
+/// Refusals 5, 6 and 7 read the samples as they are: that of a rim point that is in the band, and that of a byte beside such a point.
+#[test]
+fn damaged_blocks() {
+    let mut random = Random::new(117);
+    let (mut seen, mut seen_in_band) = ([0; 15], [0; 15]);
+    for n in 0..4500 {
+        let block = [any_block, flickering_block][n % 2](&mut random, 5);
+        let band = [any_band, wide_band][n / 2 % 2](&mut random, &block);
+        let (mut call, _) = exact_call(block, band, &mut random);
+        let lattice = call.block.lattice().unwrap();
+        // one damage for certain, others now and then: the order of refusals is compared too
+        for (k, damage) in DAMAGES.into_iter().enumerate() {
+            if k == n % DAMAGES.len() || random.percent(6) {
+                call.damage(&mut random, &lattice, damage);
+            }
+        }
+        let Filled { number, place, .. } = same_filling(&call, random.bits());
+        let is_in_band = match number {
+            5 => in_band(&call, place as usize),
+            6 | 7 => ends(&lattice, place as usize).is_some_and(|ends| ends.iter().any(|&point| in_band(&call, point))),
+            _ => false,
+        };
+        seen[number as usize] += 1;
+        seen_in_band[number as usize] += usize::from(is_in_band);
+    }
+    for number in [1, 2, 3, 4, 5, 6, 7, 10, 14] {
+        assert!(seen[number] > 50, "refusal {number} was seen {} times", seen[number]);
+    }
+    for number in [5, 6, 7] {
+        assert!(seen_in_band[number] > 50, "refusal {number} was seen {} times in the band", seen_in_band[number]);
+    }
+}
+
+/// 14 comes after 1 and before all else that can be wrong, and writes nothing.
+#[test]
+fn fourteen_comes_after_one() {
+    let mut random = Random::new(118);
+    for n in 0..900 {
+        let (mut call, _) = exact_call(any_block(&mut random, 4), 0, &mut random);
+        let lattice = call.block.lattice().unwrap();
+        let other = DAMAGES[n % DAMAGES.len()];
+        for damage in [Damage::Band, other] {
+            call.damage(&mut random, &lattice, damage);
+        }
+        let seed = random.bits();
+        let number = if other == Damage::Size { 1 } else { 14 };
+        assert_eq!(same_filling(&call, seed), Filled { number, rows: 0, moved: 0, place: 0 }, "{other:?}");
+        let after = call.run(compare::fill, &mut Random::new(seed));
+        assert!((after.state, after.rows) == call.noise(&mut Random::new(seed)), "{other:?}");
+    }
+}
+
+/// The place of every id; and demand 3 by counting, of the library's own rows: a point in the band is on the skin. A cut beside one has a
+/// place too, if its other end did not move, but stands in no row.
+#[test]
+fn every_id_of_banded_blocks() {
+    let mut random = Random::new(119);
+    let (mut placed, mut dead, mut skin) = (0, 0, 0);
+    for n in 0..300 {
+        let block = [any_block, crowded_block, flickering_block][n % 3](&mut random, 4);
+        let band = wide_band(&mut random, &block);
+        let (call, _) = exact_call(block, band, &mut random);
+        let (block, outcome) = (&call.block, call.run(compare::fill, &mut random));
+        let (lattice, points) = (block.lattice().unwrap(), block.samples.len() as u32);
+        let is_dead = |id: u32| {
+            let ends = id.checked_sub(points).and_then(|offset| ends(&lattice, offset as usize));
+            ends.is_some_and(|ends| ends.iter().any(|&point| in_band(&call, point)))
+        };
+        for id in (0..8 * points + 3).chain([u32::MAX]) {
+            if same_place(block.sizes, &block.cuts, &outcome.state, id) == 0 {
+                placed += 1;
+                dead += usize::from(is_dead(id));
+            }
+        }
+        for &id in &outcome.rows {
+            assert_eq!(same_place(block.sizes, &block.cuts, &outcome.state, id), 0);
+            assert!(!is_dead(id));
+        }
+        skin += check_mesh(block, band, &outcome.state, &outcome.rows).unwrap().skin;
+    }
+    assert!(placed > 10_000 && dead > 5_000 && skin > 3_000, "{placed} {dead} {skin}");
+}
