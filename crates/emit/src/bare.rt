@@ -11,12 +11,15 @@ ghost use Rattle.emit.specs.inner.Cubes.{Light, plusCount};
 ghost use Rattle.emit.specs.inner.Passes.{movedCube, KnownRun};
 
 // A line of so many points from one on, which is so far from another, has a sample above the band.
+// Samples are looked at in whole steps of sixteen, so that the compiled loop has no rest: some that
+// follow the line are asked too.
 fn has_plus(band: u32, samples: &[i16], base: usize, stride: usize, count: usize) -> bool
     requires { ⌜ (base + stride + count ≤ length (now samples)) × (length (now samples) ≤ most) ⌝ }
     ensures { λ r. ⌜ (r ≡ false → Light (labels band (now (samples .entry))) (base + stride) count) ⌝ }
 {
     let from = base + stride;
-    ranges::has_some(true, band, samples, from, from + count)
+    let whole = (count + 15) / 16 * 16;
+    ranges::has_some(true, band, samples, from, from + whole)
 }
 
 // None of the points of so many cubes side by side along x has a sample above the band.
