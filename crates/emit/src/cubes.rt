@@ -216,7 +216,11 @@ fn plus_at(band: u32, samples: &[i16], p: usize) -> usize
     ensures { λ r. ⌜ r ≡ plusAt (labels band (now (samples .entry))) p ⌝ }
     ensures { λ r. ⌜ r ≤ 1 ⌝ }
 {
-    if signs::is_plus(band, samples[p]) { 1 } else { 0 }
+    if signs::is_plus(band, samples[p]) {
+        1
+    } else {
+        0
+    }
 }
 
 // How many of the six points have a sample above the band.

@@ -92,7 +92,18 @@ fn write_line(
     let corner = numbers::linear(s.nx + 1, s.ny + 1, 0, y, z);
     let first = counts::corner_count(s);
     let centre = first + numbers::linear(s.nx, s.ny, 0, y, z);
-    write_run(rows, at, p.n, band, samples, state, step, corner, centre, p.mx)
+    write_run(
+        rows,
+        at,
+        p.n,
+        band,
+        samples,
+        state,
+        step,
+        corner,
+        centre,
+        p.mx,
+    )
 }
 
 // The lines of one layer.

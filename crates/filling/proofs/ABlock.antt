@@ -59,27 +59,32 @@ abbrev middle : Entry → List ℕ
 middle e =
     tableOf 245 (e ∷ map (λ o. o := 128) (30 ∷ 71 ∷ 84 ∷ 91 ∷ 92 ∷ 93 ∷ 94 ∷ 95 ∷ 96 ∷ 97 ∷ 192 ∷ 200 ∷ 208 ∷ 216 ∷ []))
 
-unfoldable pub calls : List Call
-calls =
+-- the tests before that of the cut bytes, on the least blocks
+unfoldable pub early : List Call
+early =
     -- F-3: "14 "band", the band is above 32767, directly after 1"
     refuses 32768 (blockOf (cubes 0) [] []) 0 1 0
     ∷ refuses 32768 (blockOf (cubes 1) [] []) 0 14 0
     ∷ refuses 32767 (blockOf (cubes 1) (replicate 8 (pos 5)) []) 0 2 0
     ∷ refuses 0 (blockOf (cubes 1) (plus 9 3) (replicate 62 9)) 0 3 0
     ∷ refuses 0 (blockOf (cubes 1) (plus 9 3) (replicate 63 9)) 8 4 0
-    -- a rim point above zero, before any gap or stray byte; then the lowest of these
+    -- a rim point above zero, before any gap or stray byte; F-3: "The rim .. tests go on reading raw samples"
     ∷ refuses 0 (blockOf (cubes 1) (plus 9 3) (replicate 63 9)) 9 5 3
-    ∷ refuses 0 (blockOf (cubes 2) (plus 35 13) (middle (71 := 0))) 35 6 71
-    ∷ refuses 0 (blockOf (cubes 1) (replicate 9 (negℤ (pos 5))) (tableOf 63 (40 := 9 ∷ []))) 9 7 40
-    -- F-3: "The rim and cut-byte tests go on reading raw samples"
     ∷ refuses 9 (blockOf (cubes 1) (plus 9 3) (replicate 63 9)) 9 5 3
+    ∷ []
+
+unfoldable pub calls : List Call
+calls =
+    -- the lowest byte at fault; F-3: "The .. cut-byte tests go on reading raw samples"
+    refuses 0 (blockOf (cubes 2) (plus 35 13) (middle (71 := 0))) 35 6 71
+    ∷ refuses 0 (blockOf (cubes 1) (replicate 9 (negℤ (pos 5))) (tableOf 63 (40 := 9 ∷ []))) 9 7 40
     ∷ refuses 9 (blockOf (cubes 2) (plus 35 13) (middle (71 := 0))) 35 6 71
     ∷ refuses 9 (blockOf (cubes 2) (plus 35 13) (middle (0 := 9))) 35 7 0
     -- no row, and room for none
     ∷ fills 0 (blockOf (cubes 1) (replicate 9 (negℤ (pos 5))) (replicate 63 0)) 9 0 (answer 0 0 0 0) []
     -- 24 rows, and no room for the last: "the state table is filled, the row table is untouched"
     ∷ fills 0 (blockOf (cubes 2) (plus 35 13) (middle (91 := 193))) 35 95 (answer 10 24 1 0) (14 := 8 ∷ [])
-    -- F-3: the middle point is below the band, and in it: no row is left
+    -- F-3: the middle point's sample, 5, is above the band 4 and in the band 5: no row is left
     ∷ fills 4 (blockOf (cubes 2) (plus 35 13) (middle (91 := 128))) 35 95 (answer 10 24 0 0) []
     ∷ fills 5 (blockOf (cubes 2) (plus 35 13) (middle (91 := 128))) 35 95 (answer 0 0 0 0) []
     -- "a cut byte beside a zero label is simply not live": point 14 is in the band, and the cut towards it does not move the middle point
@@ -87,6 +92,13 @@ calls =
     ∷ fills 3 (blockOf (cubes 2) (set (plus 35 13) 14 (negℤ (pos 3))) (middle (91 := 63))) 35 3 (answer 10 24 0 0) []
     ∷ []
 
-pub fills-so : map (λ c. fill (c .band) (c .block) (lent (c .state)) (lent (c .rows))) calls ≡ map (λ c. c .outcome) calls
+abbrev called : Call → Outcome
+called c = fill (c .band) (c .block) (lent (c .state)) (lent (c .rows))
+
+pub refuses-so : map called early ≡ map (λ c. c .outcome) early
+unfolding definitions early
+refuses-so = refl
+
+pub fills-so : map called calls ≡ map (λ c. c .outcome) calls
 unfolding definitions calls
 fills-so = refl

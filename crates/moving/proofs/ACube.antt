@@ -2,6 +2,7 @@
 -- Assumes nothing. (Files are checked in the order of their names: AChoice and this one first, so that a wrong rule is refused by what it gives.)
 --     codes                   the bytes that are codes
 --     one-cube                the state tables of the cases
+--     beside-a-band           a cut beside a point in the band is not live
 use Prim.Native.Nat.{ℕ}
 use mathlib.Core.Path.{_≡_, refl}
 use mathlib.Core.List.{List, [], _∷_, map}
@@ -58,3 +59,18 @@ unfolding
     signOf labelOf labels live labelAfter isZero violation limit measured squared
     cells points linear cell kindOf directions direction long isStart directionOf step staysIn farKind farIndex near edgeByte
 one-cube = refl
+
+-- F-3, "a cut byte beside a zero label is simply not live": the cut from point 0 to point 8, whose sample is -3, violates point 0; by the band 2
+-- it moves there, by the band 3 it stays
+unfoldable pub banded : ℕ → List ℕ
+banded band =
+    stateOf
+    (readingOf band
+    (blockOf (record { nx = 1; ny = 1; nz = 1 }) (set (set (replicate 9 (negℤ (pos 5))) 0 (pos 5)) 8 (negℤ (pos 3))) (tableOf 63 (3 := 60 ∷ []))))
+
+pub beside-a-band : map banded (2 ∷ 3 ∷ []) ≡ tableOf 9 (0 := 4 ∷ []) ∷ tableOf 9 [] ∷ []
+unfolding
+    banded tableOf stateAt outset moveBy turn moveTo from choice nearestTo nearer violationAlong
+    signOf labelOf labels live labelAfter isZero violation limit measured squared
+    cells points linear cell kindOf directions direction long isStart directionOf step staysIn farKind farIndex near edgeByte
+beside-a-band = refl

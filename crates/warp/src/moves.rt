@@ -51,14 +51,7 @@ fn is_live(band: u32, samples: &[i16], state: &[u8], p: usize, q: usize) -> bool
 }
 
 // The edge from a point by a code exists, and its cut is live.
-fn is_live_by(
-    s: Sizes,
-    band: u32,
-    samples: &[i16],
-    state: &[u8],
-    q: Site,
-    code: usize,
-) -> bool
+fn is_live_by(s: Sizes, band: u32, samples: &[i16], state: &[u8], q: Site, code: usize) -> bool
     requires { ⌜ Sized s ⌝ }
     requires { ⌜ (length (now samples) ≡ points s) × (length (now state) ≡ points s) ⌝ }
     requires { ⌜ Code code ⌝ }
@@ -106,14 +99,7 @@ fn is_dead(s: Sizes, band: u32, samples: &[i16], state: &[u8], q: Site, code: us
 // The points of a line take their turns. Mostly the nearest cut by the bytes is live, or there is
 // none; else the search of a point goes through all codes and keeps the nearest whose cut is live.
 // The answer counts the points that move.
-fn warp_line(
-    s: Sizes,
-    band: u32,
-    samples: &[i16],
-    cuts: &[u8],
-    state: &mut [u8],
-    q: Site,
-) -> usize
+fn warp_line(s: Sizes, band: u32, samples: &[i16], cuts: &[u8], state: &mut [u8], q: Site) -> usize
     requires { ⌜ Tabled (blockOf s (now samples) (now cuts)) ⌝ }
     requires { ⌜ Line s (q .own) q ⌝ }
     requires { ⌜ now state ≡ stateAt (readingOf band (blockOf s (now samples) (now cuts))) (q .own) ⌝ }

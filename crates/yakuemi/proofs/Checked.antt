@@ -28,7 +28,8 @@ use Rattle.yakuemi.proofs.Refusals.{refusal-by, by-rim, by-byte}
 abbrev pub said : ℕ → ℕ → Filled
 said n at = record { number = n; rows = 0; moved = 0; place = at }
 
-module _ (band : ℕ) (b : Block) (state rows : List ℕ) (small : band ≤ bandMost) (t : Tabled b) (long : length state ≡ points (b .sizes)) {r : Filled} where
+module _ (band : ℕ) (b : Block) (state rows : List ℕ) (small : band ≤ bandMost) (t : Tabled b) (long : length state ≡ points (b .sizes))
+    {r : Filled} where
   -- a rim point at fault
   pub rim-refused : {first n : ℕ} → first ≡ rimOf b → n ≡ points (b .sizes) → first < n → r ≡ said 5 first
       → Fills band b state rows r state rows
@@ -50,7 +51,8 @@ module _ (band : ℕ) (b : Block) (state rows : List ℕ) (small : band ≤ band
       go false z w = absurd (omega arith)
       go true z w =
           refusal-by band b state rows r (suc k) (cutOf b) (i ∙ ap (said (suc k)) place)
-          (by-byte band b state rows (sized-fits (b .sizes) (t .sized)) (banded-fits band small) (t .samples-long) (t .cuts-long) long (omega arith) (ltb-true _ _ z)
+          (by-byte band b state rows (sized-fits (b .sizes) (t .sized)) (banded-fits band small) (t .samples-long) (t .cuts-long) long
+          (omega arith) (ltb-true _ _ z)
           ∙ ap (λ (m : ℕ). refused state rows m (cutOf b)) (sym w))
 
 -- no fault on the rim and none in the cut table: the block is accepted

@@ -77,7 +77,7 @@ impl Met {
     }
 }
 
-/// Compares 4,000 blocks, every second one with a wide band.
+/// Compares 4,000 blocks, every second one with a wide band, and checks demand 3 by counting, of the library's own rows.
 fn banded_blocks(seed: u64, blocks: fn(&mut Random, u32) -> Block) {
     let mut random = Random::new(seed);
     let mut met = Met::default();
@@ -86,6 +86,8 @@ fn banded_blocks(seed: u64, blocks: fn(&mut Random, u32) -> Block) {
         let band = [any_band, wide_band][n % 2](&mut random, &block);
         let (mut call, asked) = exact_call(block, band, &mut random);
         met.count(&call, asked);
+        let outcome = call.run(compare::fill, &mut random);
+        check_mesh(&call.block, band, &outcome.state, &outcome.rows).unwrap();
         three_tables(&mut call, &mut random);
     }
     assert!(met.points > 200_000 && met.border > 10_000 && met.lowest > 10_000, "{met:?}");

@@ -11,7 +11,8 @@ use Rattle.emit.proofs.passes.write_layer.Statement.{statement}
 use Rattle.emit.proofs.passes.write_layer.Tie as tie
 
 abbrev Inv : tie.InvT-loop
-Inv rows₀ at band samples state p z to₀ y₀ end rows to y = (y ≤ p .my) × Written (lineIds p (labelAfter (labels band samples) state) z) rows₀ at y rows to
+Inv rows₀ at band samples state p z to₀ y₀ end rows to y =
+    (y ≤ p .my) × Written (lineIds p (labelAfter (labels band samples) state) z) rows₀ at y rows to
 
 abbrev μ : tie.MeasureT-loop
 μ rows₀ at band samples state p z to₀ y₀ end rows to y = p .my - y

@@ -11,7 +11,8 @@ use Rattle.emit.proofs.passes.write_pass.Statement.{statement}
 use Rattle.emit.proofs.passes.write_pass.Tie as tie
 
 abbrev Inv : tie.InvT-loop
-Inv rows₀ at band samples state p to₀ z₀ end rows to z = (z ≤ p .mz) × Written (layerIds p (labelAfter (labels band samples) state)) rows₀ at z rows to
+Inv rows₀ at band samples state p to₀ z₀ end rows to z =
+    (z ≤ p .mz) × Written (layerIds p (labelAfter (labels band samples) state)) rows₀ at z rows to
 
 abbrev μ : tie.MeasureT-loop
 μ rows₀ at band samples state p to₀ z₀ end rows to z = p .mz - z
