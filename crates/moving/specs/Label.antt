@@ -1,6 +1,6 @@
 -- Document 01, "Moving points": "A point's label is its sample's sign: plus, minus or zero." Document 02, F-3, adds a noise band.
 --     labelOf, labels      the label of a sample by a band, and the labelling of a block's points
---     signOf, signs        a sample's own sign, whatever the band, and those of a block's points
+--     signOf, signs        a sample's own sign, and those of a block's points
 --     bandMost, bandFits   which bands are taken
 --     isPlus, isZero, isMinus, opposed
 use Prim.Native.Nat.{ℕ}
@@ -13,6 +13,7 @@ use Rattle.basics.specs.Choice.{if_then_else_}
 use Rattle.moving.specs.declared.Label.{Label}
 use Rattle.moving.specs.declared.Label.the-variants.{Minus, Zero, Plus}
 
+-- a sample's own sign, whatever the band
 unfoldable pub signOf : ℤ → Label
 signOf (negsuc n) = Minus
 signOf (pos n) = if eqb n 0 then Zero else Plus

@@ -1,6 +1,6 @@
 // Labels of lattice points, violations, and which points move.
 
-// A point's label: the sign of its sample, or zero once it has moved.
+// A point's label: the sign of its sample, or zero in the band and once it has moved.
 pub enum Label {
     Minus,
     Zero,

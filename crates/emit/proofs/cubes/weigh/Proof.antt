@@ -1,4 +1,4 @@
--- A moved point weighs nothing, any other what its sample's sign weighs. Assumes nothing.
+-- A moved point weighs nothing, any other what its sample's label weighs. Assumes nothing.
 use Rattle.emit.proofs.WeightLaws.{handed-at, weight-moved, weight-still}
 use Rattle.rows.specs.inner.Picks.{weight}
 use mathlib.Core.Path.{ap, _∙_}
