@@ -1,4 +1,4 @@
--- Edges that cross the skin, by the candidates for their far ends. Assumes nothing.
+-- Edges that cross, by the candidates for their far ends. Assumes nothing.
 --     inner-there                    from a point that is not on the rim all edges exist
 --     edge-crosses                   an edge that exists leads to its candidate
 --     no-edge-crosses, calm-crosses  no edge, or a candidate that is not opposed

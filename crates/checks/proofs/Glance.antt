@@ -25,9 +25,9 @@ use Rattle.moving.specs.Label.{signs, labels}
 use Rattle.moving.proofs.Band.{labels-raw}
 use Rattle.filling.specs.Check.{crosses, cutFault}
 use Rattle.ground.specs.inner.Lines.{Line, lineAt}
-use Rattle.ground.specs.inner.Signs.{hasSign}
+use Rattle.ground.specs.inner.Labels.{hasLabel}
 use Rattle.ground.specs.inner.Strides.{endsOf, endsAt, rangeMost}
-use Rattle.ground.proofs.Labels.{same-sign}
+use Rattle.ground.proofs.Labels.{both-lack}
 use Rattle.ground.proofs.Points.{sited}
 use Rattle.ground.proofs.Lines.{line-stands, line-at}
 use Rattle.ground.proofs.FarEnds.{line-fits-across, site-numbers}
@@ -82,12 +82,12 @@ ends-on s q g x d i = go (q .kind) refl
 module _ {s : Sizes} {samples : List ℤ} {q : Site} (h : Sized s) (l : Line s (q .own) q) {plus : Bool} {starts : List ℕ} {m : ℕ}
     (v : Covers (q .own) (endsAt s q) starts) (e : m ≡ grid s (q .kind) along-x) (w : Level plus samples starts m) where
   abbrev Unsigned : ℕ → Type 0
-  Unsigned p = hasSign plus 0 (getD samples p (pos 0)) ≡ false
+  Unsigned p = hasLabel plus 0 (getD samples p (pos 0)) ≡ false
 
   module _ (x : ℕ) (i : x < m) where
     self-unsigned : Unsigned (q .own + x)
     self-unsigned =
-        ap (λ (p : ℕ). hasSign plus 0 (getD samples (p + x) (pos 0))) (sym (v .self)) ∙ w .none 0 (omega arith) x (omega arith)
+        ap (λ (p : ℕ). hasLabel plus 0 (getD samples (p + x) (pos 0))) (sym (v .self)) ∙ w .none 0 (omega arith) x (omega arith)
 
     end-unsigned : (d : ℕ) → d < 7 → Unsigned (getD (endsAt s (lineAt q x)) d 0)
     end-unsigned d j =
@@ -95,7 +95,7 @@ module _ {s : Sizes} {samples : List ℤ} {q : Site} (h : Sized s) (l : Line s (
         let y = getD (endsAt s q) d 0 - getD starts (r .range) 0 + x in
         let f : getD (endsAt s (lineAt q x)) d 0 ≡ getD starts (r .range) 0 + y
         = omega (arith, ends-on s q (sited (line-stands l)) x d j, r .from) in
-        ap (λ (p : ℕ). hasSign plus 0 (getD samples p (pos 0))) f ∙ w .none (r .range) (r .is-range) y (omega (arith, r .to))
+        ap (λ (p : ℕ). hasLabel plus 0 (getD samples p (pos 0))) f ∙ w .none (r .range) (r .is-range) y (omega (arith, r .to))
 
     level-calm : Calm (signs samples) (q .own + x) (endsAt s (lineAt q x))
     unfolding labels
@@ -103,7 +103,7 @@ module _ {s : Sizes} {samples : List ℤ} {q : Site} (h : Sized s) (l : Line s (
         subst (λ (label : ℕ → Label). Calm label (q .own + x) (endsAt s (lineAt q x))) (labels-raw samples) calm
       where
         calm : Calm (labels 0 samples) (q .own + x) (endsAt s (lineAt q x))
-        calm = record { none = λ d j. same-sign plus 0 _ _ self-unsigned (end-unsigned d j) }
+        calm = record { none = λ d j. both-lack plus 0 _ _ self-unsigned (end-unsigned d j) }
 
     level-none : (d : ℕ) → d < 7 → crosses s (signs samples) (q .own + x) d ≡ false
     level-none = calm-none h (sited (line-at l x (omega arith))) level-calm

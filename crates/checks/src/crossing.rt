@@ -1,5 +1,5 @@
-// Which edges from a point cross the skin. Their far ends stand a stride away: a table of strides
-// gives candidates, which are far ends where the edges exist.
+// Which edges from a point cross: the samples of their ends have opposite signs. Far ends stand a
+// stride away: a table of strides gives candidates, which are far ends where the edges exist.
 use crate::points;
 use ground::strides;
 use lattice::Site;
@@ -33,7 +33,7 @@ fn is_there(s: Sizes, q: Site, outer: bool, d: usize) -> bool
     true
 }
 
-// The edge exists and crosses the skin. Its candidate is `far`.
+// The edge exists and crosses. Its candidate is `far`.
 fn crosses(s: Sizes, samples: &[i16], q: Site, outer: bool, d: usize, far: usize) -> bool
     requires { ⌜ Asked s (now samples) q ⌝ }
     requires { ⌜ outer ≡ rimAt s (q .kind) (index q) ⌝ }

@@ -8,15 +8,15 @@ use lib.IntN.{ℤ, pos}
 use lib.ListN.{getD}
 use Rattle.moving.specs.declared.Label.{Label}
 use Rattle.moving.specs.Label.{labels}
-use Rattle.ground.specs.inner.Signs.{hasSign}
+use Rattle.ground.specs.inner.Labels.{hasLabel}
 use Rattle.emit.specs.declared.Cube.{Cube}
 use Rattle.emit.specs.inner.Cubes.{Light, plusAt, plusCount}
 use Rattle.emit.specs.inner.Passes.{movedCube, KnownRun}
 
 -- a line of samples none of which is above the band
 pub light-line : (band : ℕ) (samples : List ℤ) (from count : ℕ)
-    → ((p : ℕ) → from ≤ p → p < from + count → hasSign true band (getD samples p (pos 0)) ≡ false) → Light (labels band samples) from count
-unfolding hasSign plusAt labels
+    → ((p : ℕ) → from ≤ p → p < from + count → hasLabel true band (getD samples p (pos 0)) ≡ false) → Light (labels band samples) from count
+unfolding hasLabel plusAt labels
 light-line band samples from count h x l = simp (h (from + x) (omega arith) (omega (arith, l)))
 
 -- the six lines of points of cubes side by side

@@ -3,7 +3,7 @@
 use crate::Cube;
 use crate::CubeWeights;
 use ground::Place;
-use ground::signs;
+use ground::label;
 use ground::volume;
 use rows::Tetra;
 use rows::Weights;
@@ -29,10 +29,10 @@ fn weight_of(band: u32, x: i16) -> usize
     ensures { λ r. ⌜ r ≡ weight (labelOf band x) ⌝ }
     ensures { λ r. ⌜ r ≤ plusWeight ⌝ }
 {
-    if signs::is_plus(band, x) {
+    if label::is_plus(band, x) {
         return picks::PLUS;
     }
-    if signs::is_minus(band, x) {
+    if label::is_minus(band, x) {
         return picks::MINUS;
     }
     picks::ZERO
@@ -216,11 +216,8 @@ fn plus_at(band: u32, samples: &[i16], p: usize) -> usize
     ensures { λ r. ⌜ r ≡ plusAt (labels band (now (samples .entry))) p ⌝ }
     ensures { λ r. ⌜ r ≤ 1 ⌝ }
 {
-    if signs::is_plus(band, samples[p]) {
-        1
-    } else {
-        0
-    }
+    let plus = label::is_plus(band, samples[p]);
+    if plus { 1 } else { 0 }
 }
 
 // How many of the six points have a sample above the band.

@@ -36,7 +36,7 @@ fn least(a: usize, b: usize) -> usize
     if a < b { a } else { b }
 }
 
-// The measures of the block that was read, and its filling without a band. A state table that is too
+// The measures of the block that was read, and its filling with band 0. A state table that is too
 // short is lent as it is, and filling refuses it.
 fn fill_read(r: Read, samples: &[i16], cuts: &[u8], state: &mut [u8], rows: &mut [u32]) -> Summary
     requires { ⌜ Sized (readSizes r) ⌝ }

@@ -3,7 +3,7 @@
 --     readingBefore, fillBefore   the definitions before F-3: a label is its sample's sign, and no band is asked for
 --     band-0                      the answer and both tables are those of before
 use Prim.Native.Nat.{ℕ, _*_}
-use mathlib.Core.Path.{_≡_, refl, ap, _∙_}
+use mathlib.Core.Path.{_≡_, refl}
 use mathlib.Core.Bool.{not}
 use mathlib.Core.List.{List}
 use lib.ListN.{length}

@@ -1,9 +1,8 @@
 -- What acceptance says of what moving reads: all that the rows and their agreement with the place call ask of a block. Assumes nothing.
-use Prim.Native.Nat.{ℕ, _+_, _*_, _/_, _%_, _<_}
+use Prim.Native.Nat.{ℕ, _/_, _%_, _<_}
 use native.Mathlib.Omega.{arith}
 use mathlib.Core.Path.{_≡_, refl}
 use mathlib.Core.Logic.{inl, inr}
-use mathlib.Core.List.{List}
 use lib.ListN.{getD}
 use lib.Dec.{T}
 use borrow.Author.Tests.{eq-eqb}
@@ -18,7 +17,7 @@ use Rattle.moving.specs.Label.{signs, labels, isPlus, opposed}
 use Rattle.moving.specs.Reading.{Reading}
 use Rattle.moving.specs.Block.{Block, readingOf}
 use Rattle.moving.proofs.Band.{plus-sign, opposed-signs}
-use Rattle.filling.specs.Check.{rimFault, crossesTo, crosses, cutFault, Accepted}
+use Rattle.filling.specs.Check.{rimFault, crossesTo, cutFault, Accepted}
 
 -- no rim point is plus; an edge between a plus and a minus point has a byte
 pub record Fits (m : Reading) : Type 0 where

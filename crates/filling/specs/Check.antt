@@ -30,7 +30,7 @@ module _ (s : Sizes) (label : ℕ → Label) where
   abbrev pub firstRim : ℕ
   firstRim = lowest rimFault (points s)
 
-  -- the edge from p to this neighbour crosses the skin: "one end's sample is above zero and the other's below"
+  -- the edge from p to this neighbour crosses: "one end's sample is above zero and the other's below"
   unfoldable pub crossesTo : ℕ → Near → Bool
   crossesTo p Nothing = false
   crossesTo p (At q) = opposed (label p) (label q)

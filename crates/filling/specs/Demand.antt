@@ -17,7 +17,7 @@ use Rattle.moving.specs.declared.Label.the-variants.{Zero}
 use Rattle.moving.specs.Reading.{Reading, isMove}
 use Rattle.moving.specs.Moving.{stateOf}
 use Rattle.stencil.specs.Tetrahedron.{Vertex}
-use Rattle.stencil.specs.Row.{Row, row, Face, Third, faceOf, faceAt, Opposite, Holds}
+use Rattle.stencil.specs.Row.{Row, row, Third, faceOf, faceAt, Opposite, Holds}
 use Rattle.stencil.specs.Id.{cutId}
 use Rattle.geometry.specs.Place.{Place}
 use Rattle.filling.specs.Mesh.{rowVolume}

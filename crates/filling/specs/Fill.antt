@@ -1,7 +1,7 @@
 -- Document 01, "Calls and refusals", and document 02's F-3, "A noise band": what filling answers and leaves in the lent tables, for every
 -- input.
-use Prim.Native.Nat.{ℕ, _+_, _*_}
-use mathlib.Core.Bool.{Bool, not}
+use Prim.Native.Nat.{ℕ, _*_}
+use mathlib.Core.Bool.{not}
 use mathlib.Core.List.{List, _++_}
 use lib.ListN.{length, getD, drop}
 use lib.Dec.{ltb, leb, eqb}

@@ -15,7 +15,7 @@ use mir.Val.{ofZ, toZ}
 use Rattle.basics.proofs.Test.{lt-or}
 use Rattle.moving.specs.Label.{isPlus, isMinus}
 use Rattle.moving.proofs.Band.{label-in}
-use Rattle.ground.specs.inner.Signs.{hasSign}
+use Rattle.ground.specs.inner.Labels.{hasLabel}
 use Rattle.ground.proofs.Labels.{handed, less-plus, not-less-plus, less-minus, not-less-minus}
 
 -- the bytes before o are at most `top`
@@ -43,23 +43,23 @@ module _ {from o to end : ℕ} (g : end ≤ o) where
         | inr u ↦ List·getD-eq-default bytes 0 (l j (omega arith) b)
       ]
 
--- no sample before p has the sign by any band by which the outermost one, `x`, has not
+-- no sample before p has the label by any band by which the outermost one, `x`, has not
 pub record Without (plus : Bool) (samples : List ℤ) (from p : ℕ) (x : ℤ) : Type 0 where
-  pub none : (band : ℕ) → hasSign plus band x ≡ false
-      → (j : ℕ) → from ≤ j → j < p → hasSign plus band (getD samples j (pos 0)) ≡ false
+  pub none : (band : ℕ) → hasLabel plus band x ≡ false
+      → (j : ℕ) → from ≤ j → j < p → hasLabel plus band (getD samples j (pos 0)) ≡ false
 
 -- one sample more, where `a` was the outermost before it and `b` is the outermost with it
 without-more : {plus : Bool} {samples : List ℤ} {from p : ℕ} (a b : ℤ) → Without plus samples from p a
-    → ((band : ℕ) → hasSign plus band b ≡ false → hasSign plus band a ≡ false)
-    → ((band : ℕ) → hasSign plus band b ≡ false → hasSign plus band (getD samples p (pos 0)) ≡ false)
+    → ((band : ℕ) → hasLabel plus band b ≡ false → hasLabel plus band a ≡ false)
+    → ((band : ℕ) → hasLabel plus band b ≡ false → hasLabel plus band (getD samples p (pos 0)) ≡ false)
     → Without plus samples from (p + 1) b
 without-more {plus} {samples} {from} {p} a b w f g = record { none = λ band t j l u. step band t j l u }
   where
-    step : (band : ℕ) → hasSign plus band b ≡ false → (j : ℕ) → from ≤ j → j < p + 1 → hasSign plus band (getD samples j (pos 0)) ≡ false
+    step : (band : ℕ) → hasLabel plus band b ≡ false → (j : ℕ) → from ≤ j → j < p + 1 → hasLabel plus band (getD samples j (pos 0)) ≡ false
     step band t j l u =
         elim (lt-or j p) [
           | inl v ↦ w .none band (f band t) j l v
-          | inr v ↦ let d : j ≡ p = omega arith in ap (λ (k : ℕ). hasSign plus band (getD samples k (pos 0))) d ∙ g band t
+          | inr v ↦ let d : j ≡ p = omega arith in ap (λ (k : ℕ). hasLabel plus band (getD samples k (pos 0))) d ∙ g band t
         ]
 
 -- the same as the code has it: by the bits of the outermost samples, and of the one that was read
@@ -70,11 +70,11 @@ module _ (samples : List ℤ) (from p m n : ℕ) (h : mag (getD samples p (pos 0
   read : toZ w16 (ofZ w16 x) ≡ x
   read = handed x h
 
-  taken : (plus : Bool) (band : ℕ) → n ≡ ofZ w16 x → hasSign plus band (toZ w16 n) ≡ false → hasSign plus band x ≡ false
-  taken plus band e f = ap (hasSign plus band) (sym (ap (toZ w16) e ∙ read)) ∙ f
+  taken : (plus : Bool) (band : ℕ) → n ≡ ofZ w16 x → hasLabel plus band (toZ w16 n) ≡ false → hasLabel plus band x ≡ false
+  taken plus band e f = ap (hasLabel plus band) (sym (ap (toZ w16) e ∙ read)) ∙ f
 
-  kept : (plus : Bool) (band : ℕ) → n ≡ m → hasSign plus band (toZ w16 n) ≡ false → hasSign plus band (toZ w16 m) ≡ false
-  kept plus band e f = ap (λ (k : ℕ). hasSign plus band (toZ w16 k)) (sym e) ∙ f
+  kept : (plus : Bool) (band : ℕ) → n ≡ m → hasLabel plus band (toZ w16 n) ≡ false → hasLabel plus band (toZ w16 m) ≡ false
+  kept plus band e f = ap (λ (k : ℕ). hasLabel plus band (toZ w16 k)) (sym e) ∙ f
 
   pub higher : Without true samples from p (toZ w16 m) → ltZ (toZ w16 m) (toZ w16 (ofZ w16 x)) ≡ true → n ≡ ofZ w16 x
       → Without true samples from (p + 1) (toZ w16 n)
@@ -102,16 +102,16 @@ module _ (samples : List ℤ) (from p m n : ℕ) (h : mag (getD samples p (pos 0
       (λ band f. not-less-minus band _ _ (ap (λ (z : ℤ). ltZ z (toZ w16 m)) (sym read) ∙ l) (kept false band e f))
 
 -- what stands past the end of a table counts as zero, which is in every band
-no-sign : (plus : Bool) (band : ℕ) → hasSign plus band (pos 0) ≡ false
-unfolding hasSign isPlus isMinus
-no-sign true band = rw (label-in band (pos 0) (omega arith)) refl
-no-sign false band = rw (label-in band (pos 0) (omega arith)) refl
+in-every-band : (plus : Bool) (band : ℕ) → hasLabel plus band (pos 0) ≡ false
+unfolding hasLabel isPlus isMinus
+in-every-band true band = rw (label-in band (pos 0) (omega arith)) refl
+in-every-band false band = rw (label-in band (pos 0) (omega arith)) refl
 
 pub none-whole : {plus : Bool} {samples : List ℤ} {from p to end : ℕ} {x : ℤ} → end ≤ p
     → ((k : ℕ) → end ≤ k → k < to → length samples ≤ k) → Without plus samples from p x
-    → (band : ℕ) → hasSign plus band x ≡ false → (j : ℕ) → from ≤ j → j < to → hasSign plus band (getD samples j (pos 0)) ≡ false
+    → (band : ℕ) → hasLabel plus band x ≡ false → (j : ℕ) → from ≤ j → j < to → hasLabel plus band (getD samples j (pos 0)) ≡ false
 none-whole {plus} {samples} {p = p} g l w band t j a b =
     elim (lt-or j p) [
       | inl u ↦ w .none band t j a u
-      | inr u ↦ ap (hasSign plus band) (List·getD-eq-default samples (pos 0) (l j (omega arith) b)) ∙ no-sign plus band
+      | inr u ↦ ap (hasLabel plus band) (List·getD-eq-default samples (pos 0) (l j (omega arith) b)) ∙ in-every-band plus band
     ]

@@ -1,11 +1,11 @@
 -- Labels of samples, as the code tests them: on the numbers read back from their bits. Assumes nothing.
---     above, beneath                    plus is above the band, minus is below it
+--     above, beneath                    plus is outside the band above zero, minus is outside it below
 --     plus-test, minus-test             as the code compares them, both cast to one type (sample-fits, minus-fits)
 --     handed, plus-handed, ..           a sample that was read and handed on
 --     zero-plus, zero-other, opposed-.. labels by the tests of plus and minus
---     same-sign                         two samples that both lack a sign
+--     both-lack                         two samples that both lack a label are not opposed
 --     less-plus, .., not-less-minus     the order of two samples, and their labels
-use Prim.Native.Nat.{ℕ, zero, suc, _^_, _≤_, _<_}
+use Prim.Native.Nat.{ℕ, zero, suc, _^_, _<_}
 use native.Mathlib.Omega.{arith}
 use mathlib.Core.Path.{_≡_, refl, sym, ap, subst, _∙_}
 use mathlib.Core.Logic.{inl, inr}
@@ -22,7 +22,7 @@ use Rattle.moving.specs.declared.Label.{Label}
 use Rattle.moving.specs.declared.Label.the-variants.{Minus, Zero, Plus}
 use Rattle.moving.specs.Label.{signOf, labelOf, isPlus, isZero, isMinus, opposed}
 use Rattle.moving.proofs.Band.{label-in, label-out, label-or}
-use Rattle.ground.specs.inner.Signs.{hasSign}
+use Rattle.ground.specs.inner.Labels.{hasLabel}
 
 false-true : {A : Type 0} → _≡_ {A = Bool} false true → A
 false-true e = absurd (subst T (sym e) tt)
@@ -98,8 +98,8 @@ pub opposed-handed : (band : ℕ) (x y : ℤ) → mag x < 2 ^ 15 → mag y < 2 ^
     → opposed (labelOf band (toZ w16 (ofZ w16 x))) (labelOf band (toZ w16 (ofZ w16 y))) ≡ opposed (labelOf band x) (labelOf band y)
 opposed-handed band x y h g = λ i. opposed (labelOf band (handed x h i)) (labelOf band (handed y g i))
 
-pub sign-handed : (plus : Bool) (band : ℕ) (x : ℤ) → mag x < 2 ^ 15 → hasSign plus band (toZ w16 (ofZ w16 x)) ≡ hasSign plus band x
-sign-handed plus band x h = ap (hasSign plus band) (handed x h)
+pub label-handed : (plus : Bool) (band : ℕ) (x : ℤ) → mag x < 2 ^ 15 → hasLabel plus band (toZ w16 (ofZ w16 x)) ≡ hasLabel plus band x
+label-handed plus band x h = ap (hasLabel plus band) (handed x h)
 
 -- a label is zero where it is neither plus nor minus
 pub zero-plus : (l : Label) → isPlus l ≡ true → false ≡ isZero l
@@ -132,17 +132,17 @@ opposed-none Minus m e f = false-true (sym e)
 opposed-none Zero m e f = refl
 opposed-none Plus m e f = false-true (sym f)
 
--- two samples that both lack the sign
-pub same-sign : (plus : Bool) (band : ℕ) (x y : ℤ) → hasSign plus band x ≡ false → hasSign plus band y ≡ false
+-- two samples neither of which is plus, or neither of which is minus
+pub both-lack : (plus : Bool) (band : ℕ) (x y : ℤ) → hasLabel plus band x ≡ false → hasLabel plus band y ≡ false
     → opposed (labelOf band x) (labelOf band y) ≡ false
-unfolding hasSign opposed isPlus isMinus
-same-sign true band x y e f = go (labelOf band x) e
+unfolding hasLabel opposed isPlus isMinus
+both-lack true band x y e f = go (labelOf band x) e
   where
     go : (l : Label) → isPlus l ≡ false → opposed l (labelOf band y) ≡ false
     go Minus d = f
     go Zero d = refl
     go Plus d = false-true (sym d)
-same-sign false band x y e f = go (labelOf band x) e
+both-lack false band x y e f = go (labelOf band x) e
   where
     go : (l : Label) → isMinus l ≡ false → opposed l (labelOf band y) ≡ false
     go Minus d = false-true (sym d)
@@ -168,18 +168,18 @@ module _ (band : ℕ) (x y : ℤ) where
   abbrev low : ℤ
   low = pos 0 -ℤ pos band
 
-  pub less-plus : ltZ x y ≡ true → hasSign true band y ≡ false → hasSign true band x ≡ false
-  unfolding hasSign
+  pub less-plus : ltZ x y ≡ true → hasLabel true band y ≡ false → hasLabel true band x ≡ false
+  unfolding hasLabel
   less-plus e f = sym (above band x) ∙ no-higher x y (pos band) (less-not x y e) (above band y ∙ f)
 
-  pub not-less-plus : ltZ x y ≡ false → hasSign true band x ≡ false → hasSign true band y ≡ false
-  unfolding hasSign
+  pub not-less-plus : ltZ x y ≡ false → hasLabel true band x ≡ false → hasLabel true band y ≡ false
+  unfolding hasLabel
   not-less-plus e f = sym (above band y) ∙ no-higher y x (pos band) e (above band x ∙ f)
 
-  pub less-minus : ltZ x y ≡ true → hasSign false band x ≡ false → hasSign false band y ≡ false
-  unfolding hasSign
+  pub less-minus : ltZ x y ≡ true → hasLabel false band x ≡ false → hasLabel false band y ≡ false
+  unfolding hasLabel
   less-minus e f = sym (beneath band y) ∙ no-higher low x y (beneath band x ∙ f) (less-not x y e)
 
-  pub not-less-minus : ltZ x y ≡ false → hasSign false band y ≡ false → hasSign false band x ≡ false
-  unfolding hasSign
+  pub not-less-minus : ltZ x y ≡ false → hasLabel false band y ≡ false → hasLabel false band x ≡ false
+  unfolding hasLabel
   not-less-minus e f = sym (beneath band x) ∙ no-higher low y x (beneath band y ∙ f) e

@@ -1,4 +1,4 @@
-pub mod Signs
+pub mod Labels
 pub mod Lines
 pub mod Strides
 pub mod Places

@@ -1,8 +1,8 @@
 // The ground floor of the code: what the checks, moving, places and rows all stand on. Lines of
 // points along x, far ends by strides, whole ranges of a table, labels of samples, the violation test
 // and the six-volume.
+pub mod label;
 pub mod ranges;
-pub mod signs;
 pub mod strides;
 pub mod violation;
 pub mod volume;

@@ -1,13 +1,13 @@
 // Whole ranges of a table, tested at once: no test ends early, so that the compiler takes many
 // entries in one step. A range may go past the table's end: what is not there counts as zero.
-use crate::signs;
+use crate::label;
 ghost use mathlib.Core.Path.{_≡_};
 ghost use mathlib.Core.Bool.{true, false};
 ghost use Prim.Native.Nat.{ℕ, _<_, _≤_};
 ghost use lib.IntN.{pos};
 ghost use lib.ListN.{length, getD};
 ghost use Rattle.lattice.specs.inner.Site.{most};
-ghost use Rattle.ground.specs.inner.Signs.{hasSign};
+ghost use Rattle.ground.specs.inner.Labels.{hasLabel};
 
 fn lesser(a: usize, b: usize) -> usize
     ensures { λ r. ⌜ (r ≤ a) × (r ≤ b) × ((k : ℕ) → r ≤ k → k < a → b ≤ k) ⌝ }
@@ -34,8 +34,8 @@ pub fn is_blank(bytes: &[u8], from: usize, to: usize) -> bool
 // plus, by whatever band, none is.
 fn highest(samples: &[i16], from: usize, to: usize) -> i16
     requires { ⌜ length (now samples) ≤ most ⌝ }
-    ensures { λ r. ⌜ ((band : ℕ) → hasSign true band r ≡ false
-        → (p : ℕ) → from ≤ p → p < to → hasSign true band (getD (now (samples .entry)) p (pos 0)) ≡ false) ⌝ }
+    ensures { λ r. ⌜ ((band : ℕ) → hasLabel true band r ≡ false
+        → (p : ℕ) → from ≤ p → p < to → hasLabel true band (getD (now (samples .entry)) p (pos 0)) ≡ false) ⌝ }
 {
     let end = lesser(to, samples.len());
     let mut most: i16 = 0;
@@ -52,8 +52,8 @@ fn highest(samples: &[i16], from: usize, to: usize) -> i16
 // minus, by whatever band, none is.
 fn lowest(samples: &[i16], from: usize, to: usize) -> i16
     requires { ⌜ length (now samples) ≤ most ⌝ }
-    ensures { λ r. ⌜ ((band : ℕ) → hasSign false band r ≡ false
-        → (p : ℕ) → from ≤ p → p < to → hasSign false band (getD (now (samples .entry)) p (pos 0)) ≡ false) ⌝ }
+    ensures { λ r. ⌜ ((band : ℕ) → hasLabel false band r ≡ false
+        → (p : ℕ) → from ≤ p → p < to → hasLabel false band (getD (now (samples .entry)) p (pos 0)) ≡ false) ⌝ }
 {
     let end = lesser(to, samples.len());
     let mut least: i16 = 0;
@@ -66,15 +66,15 @@ fn lowest(samples: &[i16], from: usize, to: usize) -> i16
     least
 }
 
-// Some sample from one on and before another is above the band, or some is below it: the outermost
+// Some sample from one on and before another is plus by the band, or some is minus: the outermost
 // one is.
 pub fn has_some(plus: bool, band: u32, samples: &[i16], from: usize, to: usize) -> bool
     requires { ⌜ length (now samples) ≤ most ⌝ }
     ensures { λ r. ⌜ (r ≡ false
-        → (p : ℕ) → from ≤ p → p < to → hasSign plus band (getD (now (samples .entry)) p (pos 0)) ≡ false) ⌝ }
+        → (p : ℕ) → from ≤ p → p < to → hasLabel plus band (getD (now (samples .entry)) p (pos 0)) ≡ false) ⌝ }
 {
     if plus {
-        return signs::has_sign(plus, band, highest(samples, from, to));
+        return label::has_label(plus, band, highest(samples, from, to));
     }
-    signs::has_sign(plus, band, lowest(samples, from, to))
+    label::has_label(plus, band, lowest(samples, from, to))
 }

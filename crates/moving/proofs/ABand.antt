@@ -1,6 +1,8 @@
 -- Labels by bands: document 02's F-3 by itself. Assumes nothing. (Files are checked in the order of their names: this one first, so that a
 -- wrong label is refused by what it gives.)
---     in-bands, by-the-largest, bands-taken
+--     in-bands           samples at, above and below a band
+--     by-the-largest     by the band 32767 only -32768 is not zero
+--     bands-taken        which bands fit
 use mathlib.Core.Path.{_≡_, refl}
 use mathlib.Core.Bool.{true, false}
 use mathlib.Core.List.{List, [], _∷_, map}

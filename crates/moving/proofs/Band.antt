@@ -1,12 +1,12 @@
 -- Document 02, F-3: labels by a band and raw signs. Assumes nothing.
---     label-in, label-out, zero-in   a label is zero exactly if the sample's size is at most the band; any other is its sign
---     label-raw, labels-raw, opposed-raw   by the band 0 it is always the sign
---     plus-sign, opposed-signs       so whatever is plus by a band is above zero, and opposed labels are opposed signs
---     in-band-rests                  a point in the band never moves
---     fits-banded, banded-fits       the test of the band
+--     label-in, zero-in, label-out, label-or   a label is zero exactly if the sample's size is at most the band; any other is the sign
+--     label-raw, labels-raw, opposed-raw       by the band 0 it is always the sign
+--     plus-sign, opposed-signs                 what is plus by a band is above zero, and what is opposed by it has opposed signs
+--     in-band-rests                            a point in the band never moves
+--     fits-banded, banded-fits                 the test of the band
 use Prim.Native.Nat.{ℕ, _≤_, _<_}
 use native.Mathlib.Omega.{arith}
-use mathlib.Core.Path.{_≡_, refl, sym, _∙_, subst}
+use mathlib.Core.Path.{_≡_, sym, _∙_, subst}
 use mathlib.Core.Logic.{_⊎_, inl, inr}
 use mathlib.Core.List.{List}
 use mathlib.Core.Bool.{true}

@@ -49,7 +49,7 @@ fn lend(
     tables::lend_numbers(rows, numbers::four_at(head, 28) as u32);
 }
 
-// Fills the block of the sizes and cut bytes that the body holds, without a band.
+// Fills the block of the sizes and cut bytes that the body holds, with band 0.
 fn refill(l: Lengths, body: &[u8], samples: &[i16], state: &mut [u8], rows: &mut [u32]) -> Filled
     requires { ⌜ stateAt l ≤ length (now body) ⌝ }
     ensures { λ r. ⌜ r ≡ fill 0 (blockWith (now (body .entry)) l (now (samples .entry))) (now (state .entry)) (now (rows .entry)) .answer ⌝ }

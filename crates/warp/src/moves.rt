@@ -1,6 +1,6 @@
 // Which points move, and by which code.
 use crate::bytes;
-use ground::signs;
+use ground::label;
 use ground::violation;
 use ground::walk;
 use lattice::Near;
@@ -35,7 +35,7 @@ fn is_faded(band: u32, samples: &[i16], state: &[u8], p: usize) -> bool
     if state[p] != 0 {
         return true;
     }
-    signs::is_zero(band, samples[p])
+    label::is_zero(band, samples[p])
 }
 
 // A cut between p and q is live: neither label is zero.

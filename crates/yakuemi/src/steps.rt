@@ -1,7 +1,7 @@
 // The steps of filling, in the papers' order of checks.
 use checks::Fault;
 use filling::Filled;
-use ground::signs;
+use ground::label;
 use lattice::Sizes;
 use lattice::counts;
 ghost use mathlib.Core.Path.{_≡_};
@@ -102,7 +102,7 @@ pub fn fill_sized(
     if !counts::sizes_fit(s) {
         return refused(1, 0);
     }
-    if !signs::band_fits(band) {
+    if !label::band_fits(band) {
         return refused(14, 0);
     }
     let n = counts::point_count(s);

@@ -1,6 +1,6 @@
 -- Document 02, F-3: the given case with bands, and a rod of rubber that a point in the band splits. The theorem is `bands-come-out` in
--- proofs/Cases.antt. T and M of the rod, and its first row, are what separate software gives.
-use Prim.Native.Nat.{ℕ, _*_, _/_, _%_}
+-- proofs/Cases.antt. T and M of the rod, and its first row, are what separate software gives (docs/src/reference/tests/band.rs).
+use Prim.Native.Nat.{_*_, _/_, _%_}
 use mathlib.Core.List.{List, [], _∷_, map}
 use lib.IntN.{ℤ, pos, negℤ}
 use lib.ListN.{replicate, set}
@@ -14,8 +14,8 @@ use Rattle.moving.specs.Block.{Block, blockOf}
 use Rattle.stencil.specs.Row.{row}
 use Rattle.filling.specs.Check.{crosses}
 use Rattle.casebook.specs.cases.Lent.{as-lent, codes}
-use Rattle.casebook.specs.cases.Given.{unchanged, byte-at, sample-at, changed, allEntered}
-use Rattle.casebook.specs.cases.Cases.{Case, banded, Claim, first-row, place-of, filled, too-short, refused, at, nowhere}
+use Rattle.casebook.specs.cases.Given.{givenSizes, givenSamples, givenCuts, unchanged, byte-at, sample-at, changed, allEntered}
+use Rattle.casebook.specs.cases.Cases.{Case, banded, first-row, place-of, filled, too-short, refused, at}
 
 -- the corners inside 4 by 2 by 2 cubes are 21, 22 and 23, side by side along x
 abbrev rodSizes : Sizes
@@ -42,21 +42,22 @@ bands =
     ∷ banded 32767 (changed unchanged) 100 (filled 0 0) (codes []) []
     -- "14 "band", the band is above 32767 .. it writes nothing"
     ∷ banded 32768 (changed unchanged) 100 (refused 14 0) as-lent []
-    -- "a cut byte beside a zero label is simply not live": P2's cut moves point 13 while both its ends are outside the band. It keeps its place
+    -- "a cut byte beside a zero label is simply not live": P2's cut moves point 13 while both its ends are outside the band. In it the cut,
+    -- id 126, still has its place
     ∷ banded 4 (changed (byte-at 91 63)) 100 (filled 0 1) (codes (13 := 1 ∷ [])) (place-of 13 (at 638 512 512) ∷ [])
     ∷ banded 5 (changed (byte-at 91 63)) 100 (filled 0 0) (codes []) (place-of 13 (at 512 512 512) ∷ place-of 126 (at 638 512 512) ∷ [])
     -- "The rim and cut-byte tests go on reading raw samples": P12, P10 and P11 in a band that takes in every sample
     ∷ banded 5 (changed (sample-at 27 (pos 1))) 100 (refused 5 27) as-lent []
     ∷ banded 5 (changed (byte-at 91 0)) 100 (refused 6 91) as-lent []
     ∷ banded 5 (changed (byte-at 0 7)) 100 (refused 7 0) as-lent []
-    -- -32768 is in no band: point 14 stays in the air
-    ∷ banded 32767 (changed (sample-at 14 (negℤ (pos 32768)))) 100 (filled 0 0) (codes []) []
-    -- the rod is one body, and with 22 in the band two that meet in it alone: 24 rows each, as in the given case
+    -- -32768 has size 32,768, though 16 bits hold no such size: point 14 is not in the band, and P2's cut towards it moves point 13
+    ∷ banded 4 (blockOf givenSizes (set givenSamples 14 (negℤ (pos 32768))) (set givenCuts 91 63)) 100 (filled 0 1) (codes (13 := 1 ∷ [])) []
+    -- the rod, and with 22 in the band what is left of it about 21 and 23: as many rows as two given cases have
     ∷ banded 2 (rod []) 320 (filled 80 0) (codes []) (first-row (row 21 105 387 379) (pos 8388608) ∷ [])
     ∷ banded 3 (rod []) 192 (filled 48 0) (codes []) (first-row (row 21 105 387 379) (pos 8388608) ∷ place-of 22 (at 1024 512 512) ∷ [])
     ∷ banded 3 (rod []) 191 (too-short 48 0) (codes []) []
     ∷ banded 5 (rod []) 0 (filled 0 0) (codes []) []
-    -- a cut that violates 22, and one that violates the point beyond it: in the band neither is live, and "a point in the band never moves"
+    -- a cut that violates 22, and one that violates the point beyond it: with 22 in the band neither is live, so neither point moves
     ∷ banded 2 (rod (155 := 63 ∷ [])) 320 (filled 48 1) (codes (22 := 2 ∷ [])) (place-of 22 (at 1024 638 512) ∷ [])
     ∷ banded 3 (rod (155 := 63 ∷ [])) 320 (filled 48 0) (codes []) (place-of 22 (at 1024 512 512) ∷ [])
     ∷ banded 2 (rod (155 := 193 ∷ [])) 320 (filled 80 1) (codes (27 := 9 ∷ [])) (place-of 27 (at 1024 898 512) ∷ [])

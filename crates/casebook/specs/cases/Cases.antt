@@ -27,7 +27,7 @@ pub record Case : Type 0 where
   pub state : State
   pub claims : List Claim
 
--- any block with a band; and the given block with a change, without one
+-- any block with a band; and the given block with a change, with band 0
 abbrev pub banded : ℕ → Block → ℕ → Filled → State → List Claim → Case
 banded band b n a s cs = record { band = band; block = b; numbers = n; answer = a; state = s; claims = cs }
 

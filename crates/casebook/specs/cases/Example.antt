@@ -58,13 +58,14 @@ recorded e =
       places = map (λ q. q .placed) (e .questions);
     }
 
--- by the definitions, without a band
+-- by the definitions
 unfoldable pub asked : Block → List ℕ → Question → Placed
 asked b state q = locate (b .sizes) (b .cuts) (entered (q .entry) state) (q .id)
 
 unfoldable pub answered : Block → Outcome → List Question → Result
 answered b o qs = record { outcome = o; places = map (asked b (o .state)) qs }
 
+-- recorded with band 0
 unfoldable pub defined : Example → Result
 defined e =
     let b = blockIn e in

@@ -3,7 +3,7 @@
 --     CutAnswer              the answer for a whole cut table
 --     Wrong, Answered        the answer for a part of it
 --     numberAt, sevenFault   a byte's fault, and that of one of a point's seven bytes
---     crossingsAt            which of the seven edges from a point cross the skin
+--     crossingsAt            which of the seven edges from a point cross
 --     PointFine, LineFine, PointAnswered, LineAnswered     the answers for a point and for a line of points
 --     Asked                  a decoded point of a block whose samples are all there
 use Prim.Native.Nat.{ℕ, _+_, _*_, _≤_, _<_}

@@ -1,6 +1,6 @@
 //! Filling: answer, state table and row table, bit for bit, on valid and damaged blocks, with row tables too short by one,
-//! exact and too long. Lent tables are full of noise beforehand, so that entries which must stay are seen to stay. Half of the calls have
-//! band 0; `band.rs` has more of the others.
+//! exact and too long. Lent tables are full of noise beforehand, so that entries which must stay are seen to stay. The random valid blocks
+//! have band 0, of the others half; `band.rs` has more with bands.
 use compare::{good_call, same_filling, three_tables};
 use reference::block::Block;
 use reference::damage::{Call, DAMAGES};
@@ -9,9 +9,9 @@ use reference::plain::{first, move_points_by, nearest, Choice};
 use reference::random::Random;
 
 /// How many points would have moved to another cut before request F-2.
-fn moved_elsewhere(Call { block, band, .. }: &Call) -> usize {
+fn moved_elsewhere(block: &Block) -> usize {
     let lattice = block.lattice().unwrap();
-    let codes = |choice: Choice| move_points_by(choice, &lattice, *band, &block.samples, &block.cuts).codes;
+    let codes = |choice: Choice| move_points_by(choice, &lattice, 0, &block.samples, &block.cuts).codes;
     codes(first).iter().zip(codes(nearest)).filter(|(&old, new)| old != *new).count()
 }
 
@@ -20,10 +20,9 @@ fn valid_blocks(seed: u64, blocks: fn(&mut Random, u32) -> Block, least: usize) 
     let mut random = Random::new(seed);
     let mut elsewhere = 0;
     for _ in 0..6000 {
-        let block = blocks(&mut random, 5);
-        let mut call = good_call(&mut random, block);
+        let mut call = Call::good(blocks(&mut random, 5), 0, 0);
         three_tables(&mut call, &mut random);
-        elsewhere += moved_elsewhere(&call);
+        elsewhere += moved_elsewhere(&call.block);
     }
     assert!(elsewhere > least, "{elsewhere} points move to another cut than the first");
 }

@@ -13,7 +13,7 @@ use reference::cut::{edge_of_code, violation};
 use reference::damage::{Call, Damage, Outcome, DAMAGES};
 use reference::fill::Filled;
 use reference::generate::{any_band, any_block, crowded_block, flickering_block, wide_band};
-use reference::generate::{block, Cutting, CUTTINGS, MIXES};
+use reference::generate::{block, cuts_where_needed, Cutting, CUTTINGS, MIXES};
 use reference::lattice::{Edge, Lattice};
 use reference::place::{place, Placed};
 use reference::plain::{ids_of_rows, label, nearest, Moved, Violation};
@@ -432,7 +432,7 @@ fn given(samples: &[(usize, i16)], bytes: &[(usize, u8)]) -> Block {
     block
 }
 
-/// Both fillings of a block of 2 by 2 by 2, with no row behind the last.
+/// Both fillings of a small block, with no row behind the last.
 fn outcome(block: &Block, band: u32) -> Outcome {
     run_both(&Call::good(block.clone(), band, 0), 1)
 }
@@ -468,6 +468,52 @@ fn the_given_case() {
     for band in [32768, 32769, 65535, 65536, 1 << 31, u32::MAX] {
         call.band = band;
         check_refused(&call, 14, 0);
+    }
+}
+
+/// 4 by 2 by 2 cubes with rubber at the three corners inside, side by side, and
+/// little of it in the middle; the skin is halfway along all edges but some.
+fn rod(bytes: &[(usize, u8)]) -> Block {
+    let lattice = Lattice::new(4, 2, 2).unwrap();
+    let mut samples = vec![-5; lattice.point_count()];
+    (samples[21], samples[22], samples[23]) = (5, 3, 5);
+    let mut cuts = cuts_where_needed(&lattice, &samples, |_, _| 128);
+    for &(offset, byte) in bytes {
+        cuts[offset] = byte;
+    }
+    let sizes = [4, 2, 2];
+    Block {
+        sizes,
+        samples,
+        cuts,
+    }
+}
+
+/// With its middle in the band the rod is two bodies of 24 rows, as the given
+/// case is one, and they share that point alone.
+#[test]
+fn a_point_in_the_band_splits_a_rod() {
+    let whole = outcome(&rod(&[]), 2);
+    assert_eq!((whole.filled.rows, whole.filled.moved), (80, 0));
+    assert_eq!(whole.rows[..4], [21, 105, 387, 379]);
+    let split = outcome(&rod(&[]), 3);
+    assert_eq!((split.filled.rows, split.filled.moved), (48, 0));
+    assert_eq!(split.rows[..4], [21, 105, 387, 379]);
+    let ids_beside = |end: u32| -> HashSet<u32> {
+        let rows = split.rows.chunks(4).filter(|row| row.contains(&end));
+        rows.flatten().copied().collect()
+    };
+    let (left, right) = (ids_beside(21), ids_beside(23));
+    assert_eq!(left.intersection(&right).collect::<Vec<_>>(), [&22]);
+    assert_eq!(outcome(&rod(&[]), 5).filled.rows, 0);
+    for (byte, band, rows, moved) in [
+        (63, 2, 48, 1),
+        (63, 3, 48, 0),
+        (193, 2, 80, 1),
+        (193, 3, 48, 0),
+    ] {
+        let filled = outcome(&rod(&[(155, byte)]), band).filled;
+        assert_eq!((filled.rows, filled.moved), (rows, moved), "{byte} {band}");
     }
 }
 

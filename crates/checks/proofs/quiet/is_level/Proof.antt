@@ -7,14 +7,14 @@ use lib.Dec.{T}
 use lib.IntN.{pos}
 use lib.ListN.{getD}
 use borrow.Author.Count.{below-more}
-use Rattle.ground.specs.inner.Signs.{hasSign}
+use Rattle.ground.specs.inner.Labels.{hasLabel}
 use borrow.Author.Needs.{needs}
 use Rattle.checks.proofs.quiet.is_level.Statement.{statement}
 use Rattle.checks.proofs.quiet.is_level.Tie as tie
 
 abbrev Inv-loop : tie.InvT-loop
 Inv-loop plus samples m starts k₀ k =
-    (k ≤ 5) × ((j : ℕ) → j < k → (y : ℕ) → y ≤ m → hasSign plus 0 (getD samples (getD starts j 0 + y) (pos 0)) ≡ false)
+    (k ≤ 5) × ((j : ℕ) → j < k → (y : ℕ) → y ≤ m → hasLabel plus 0 (getD samples (getD starts j 0 + y) (pos 0)) ≡ false)
 
 abbrev μ-loop : tie.MeasureT-loop
 μ-loop plus samples m starts k₀ k = 5 - k
@@ -51,7 +51,7 @@ loop-again c =
     let at-loop = c .before .before .before in
     let a = at-loop .before .args in
     let P : ℕ → Type 0
-    = λ j. (y : ℕ) → y ≤ a .m → hasSign (a .plus) 0 (getD (a .samples .now) (getD (a .t3) j 0 + y) (pos 0)) ≡ false in
+    = λ j. (y : ℕ) → y ≤ a .m → hasLabel (a .plus) 0 (getD (a .samples .now) (getD (a .t3) j 0 + y) (pos 0)) ≡ false in
     let more = c .before .has-some .ensures (c .if1 .left) in
     (omega arith, below-more P (at-loop .loop .k) (at-loop .loop .inv .1) (λ y h. more _ (omega arith) (omega arith)))
 

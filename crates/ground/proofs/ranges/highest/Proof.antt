@@ -1,4 +1,4 @@
--- The loop's invariant: by whatever band, a sample seen has the sign only if the outermost one has. Assumes nothing.
+-- The loop's invariant: by whatever band, a sample seen has the label only if the outermost one has. Assumes nothing.
 use Prim.Native.Nat.{_-_}
 use native.Mathlib.Omega.{arith}
 use mathlib.Core.Bool.{true}

@@ -1,8 +1,8 @@
 -- A sample is below the band where its label is minus: both are cast to one type. Assumes nothing.
 use Rattle.ground.proofs.Labels.{sample-fits, minus-fits, minus-test}
 use borrow.Author.Needs.{needs}
-use Rattle.ground.proofs.signs.is_minus.Statement.{statement}
-use Rattle.ground.proofs.signs.is_minus.Tie as tie
+use Rattle.ground.proofs.label.is_minus.Statement.{statement}
+use Rattle.ground.proofs.label.is_minus.Tie as tie
 
 cast-result : tie.Need-cast-result
 cast-result c = sample-fits _ (c .fits .a)

@@ -2,7 +2,7 @@
 // a label is the sample's own sign.
 ghost use mathlib.Core.Path.{_≡_};
 ghost use Rattle.moving.specs.Label.{labelOf, bandFits, isPlus, isZero, isMinus, opposed};
-ghost use Rattle.ground.specs.inner.Signs.{hasSign};
+ghost use Rattle.ground.specs.inner.Labels.{hasLabel};
 
 const BAND_MOST: u32 = 32767;
 
@@ -35,8 +35,8 @@ pub fn is_zero(band: u32, a: i16) -> bool
 }
 
 // A sample's label is plus, or minus.
-pub fn has_sign(plus: bool, band: u32, a: i16) -> bool
-    ensures { λ r. ⌜ r ≡ hasSign plus band a ⌝ }
+pub fn has_label(plus: bool, band: u32, a: i16) -> bool
+    ensures { λ r. ⌜ r ≡ hasLabel plus band a ⌝ }
 {
     if plus {
         return is_plus(band, a);

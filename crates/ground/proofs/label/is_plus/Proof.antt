@@ -1,8 +1,8 @@
 -- A sample is above the band where its label is plus: both are cast to one type. Assumes nothing.
 use Rattle.ground.proofs.Labels.{sample-fits, plus-test}
 use borrow.Author.Needs.{needs}
-use Rattle.ground.proofs.signs.is_plus.Statement.{statement}
-use Rattle.ground.proofs.signs.is_plus.Tie as tie
+use Rattle.ground.proofs.label.is_plus.Statement.{statement}
+use Rattle.ground.proofs.label.is_plus.Tie as tie
 
 cast-result : tie.Need-cast-result
 cast-result c = search needs

@@ -3,8 +3,8 @@ use mathlib.Core.Path.{sym, ap, _∙_}
 use mathlib.Core.Bool.{not}
 use Rattle.ground.proofs.Labels.{plus-handed, minus-handed, zero-plus, zero-other}
 use borrow.Author.Needs.{needs}
-use Rattle.ground.proofs.signs.is_zero.Statement.{statement}
-use Rattle.ground.proofs.signs.is_zero.Tie as tie
+use Rattle.ground.proofs.label.is_zero.Statement.{statement}
+use Rattle.ground.proofs.label.is_zero.Tie as tie
 
 is-plus-requires : tie.Need-is-plus-requires
 is-plus-requires c κs = search needs

@@ -1,8 +1,8 @@
 -- By the largest band. Assumes nothing.
 use mathlib.Core.Path.{refl}
 use Rattle.moving.specs.Label.{bandFits}
-use Rattle.ground.proofs.signs.band_fits.Statement.{statement}
-use Rattle.ground.proofs.signs.band_fits.Tie as tie
+use Rattle.ground.proofs.label.band_fits.Statement.{statement}
+use Rattle.ground.proofs.label.band_fits.Tie as tie
 
 returns : tie.Need-returns
 unfolding bandFits

@@ -2,8 +2,8 @@
 use mathlib.Core.Path.{sym, _∙_}
 use Rattle.ground.proofs.Labels.{plus-handed, minus-handed, opposed-minus, opposed-plus, opposed-none}
 use borrow.Author.Needs.{needs}
-use Rattle.ground.proofs.signs.opposite.Statement.{statement}
-use Rattle.ground.proofs.signs.opposite.Tie as tie
+use Rattle.ground.proofs.label.opposite.Statement.{statement}
+use Rattle.ground.proofs.label.opposite.Tie as tie
 
 is-minus-requires : tie.Need-is-minus-requires
 is-minus-requires c κs = search needs
