@@ -29,13 +29,13 @@ fn valid_blocks(seed: u64, blocks: fn(&mut Random, u32) -> Block, least: usize) 
 
 #[test]
 fn blocks_of_every_kind() {
-    valid_blocks(71, any_block, 10_000);
+    valid_blocks(71, any_block, 20_000);
 }
 
 /// Many cuts violate one point, often two of them as near or almost.
 #[test]
 fn crowded_blocks() {
-    valid_blocks(75, crowded_block, 20_000);
+    valid_blocks(75, crowded_block, 30_000);
 }
 
 #[test]
