@@ -15,6 +15,8 @@ pub const LONGEST_LINE: usize = 65;
 pub struct Grid {
     /// The number of its first point.
     pub first: usize,
+    /// The number of its first line.
+    pub first_line: usize,
     /// Its points along x, y and z.
     pub wide: [usize; 3],
 }
@@ -28,6 +30,11 @@ impl Grid {
     /// The number of the first point of the line at these indices.
     pub fn line_start(&self, j: usize, k: usize) -> usize {
         self.first + self.wide[0] * (j + self.wide[1] * k)
+    }
+
+    /// The number of the line at these indices, among the lines of both grids.
+    pub fn line_number(&self, j: usize, k: usize) -> usize {
+        self.first_line + j + self.wide[1] * k
     }
 }
 
@@ -44,13 +51,16 @@ impl Grids {
     /// The grids of a lattice.
     pub fn new(lattice: &Lattice) -> Grids {
         let cubes = lattice.cubes();
+        let corners = cubes.map(|n| n + 1);
         Grids {
             corners: Grid {
                 first: 0,
-                wide: cubes.map(|n| n + 1),
+                first_line: 0,
+                wide: corners,
             },
             centres: Grid {
                 first: lattice.corner_count(),
+                first_line: corners[1] * corners[2],
                 wide: cubes,
             },
         }
@@ -71,6 +81,7 @@ impl Grids {
                     other,
                     bias,
                     first: own.line_start(j, k),
+                    number: own.line_number(j, k),
                     j,
                     k,
                 })
@@ -91,6 +102,8 @@ pub struct Line {
     bias: isize,
     /// The number of the first point.
     pub first: usize,
+    /// The number of the line; lines are numbered as [`Grids::lines`] goes.
+    pub number: usize,
     j: usize,
     k: usize,
 }
@@ -104,6 +117,10 @@ pub struct Reach {
     pub to: usize,
     /// The other end's number less the point's own.
     pub shift: isize,
+    /// The number of the line on which the other ends lie, if there are any.
+    pub line: usize,
+    /// The other end's index on that line less the point's own.
+    pub step: isize,
 }
 
 impl Reach {
@@ -155,11 +172,14 @@ impl Line {
         if j < 0 || j >= wy || k < 0 || k >= wz {
             return Reach::default();
         }
-        let start = target.line_start(j as usize, k as usize) as isize;
+        let (j, k) = (j as usize, k as usize);
+        let start = target.line_start(j, k) as isize;
         Reach {
             from: (-index_step[0]).max(0) as usize,
             to: (wx - index_step[0]).min(self.count() as isize) as usize,
             shift: start + index_step[0] - self.first as isize,
+            line: target.line_number(j, k),
+            step: index_step[0],
         }
     }
 }
@@ -174,17 +194,18 @@ mod tests {
             let lattice = Lattice::new(sizes[0], sizes[1], sizes[2]).unwrap();
             let grids = Grids::new(&lattice);
             assert_eq!(grids.point_count(), lattice.point_count());
+            let lines: Vec<Line> = grids.lines().collect();
             let mut next = 0;
-            for line in grids.lines() {
-                assert_eq!(line.first, next);
+            for (number, line) in lines.iter().enumerate() {
+                assert_eq!((line.number, line.first), (number, next));
                 next += line.count();
-                check_line(&lattice, &line);
+                check_line(&lattice, &lines, line);
             }
             assert_eq!(next, lattice.point_count());
         }
     }
 
-    fn check_line(lattice: &Lattice, line: &Line) {
+    fn check_line(lattice: &Lattice, lines: &[Line], line: &Line) {
         for index in 0..line.count() {
             let point = line.first + index;
             let at_end = index == 0 || index == line.count() - 1;
@@ -197,6 +218,11 @@ mod tests {
                 };
                 let stepped = reach.covers(index).then(|| reach.other_end(point));
                 assert_eq!(decoded, stepped);
+                if let Some(other) = decoded {
+                    let other_index = index.wrapping_add_signed(reach.step);
+                    assert_eq!(other, lines[reach.line].first + other_index);
+                    assert!(other_index < lines[reach.line].count());
+                }
             }
         }
     }
