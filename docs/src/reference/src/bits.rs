@@ -5,7 +5,7 @@
 //! point, all points of a line together. Bytes of the cut table are looked at
 //! in groups of eight points, 56 bytes, and there a bit stands for each byte.
 
-use crate::strides::{Line, Reach, LONGEST_LINE};
+use crate::strides::{Ahead, Line, LONGEST_LINE};
 
 /// The points of a group.
 pub const GROUP: usize = 8;
@@ -67,14 +67,10 @@ fn gather(ones: u64) -> u8 {
 /// Which edges of a line's points must be cut: for each direction, bit n is set
 /// if that of point n must. Where there is no other end there is no bit, as no
 /// line has a sign beyond its ends.
-pub fn needs_of_line(line: &Line, reaches: &[Reach; 7], signs: &[Signs]) -> [u128; 7] {
-    reaches.map(|reach| {
-        if reach.from < reach.to {
-            signs[line.number].opposite(signs[reach.line], reach.step)
-        } else {
-            0
-        }
-    })
+pub fn needs_of_line(line: &Line, signs: &[Signs]) -> [u128; 7] {
+    let own = signs[line.number()];
+    let need = |ahead: Ahead| own.opposite(signs[ahead.line], ahead.step);
+    line.ahead().map(|ahead| ahead.map_or(0, need))
 }
 
 /// The needs of a group from those of its points in each direction: bit 7n+d is
@@ -172,7 +168,7 @@ mod tests {
             let of_line = |line: Line| Signs::of(&samples[line.first..line.first + line.count()]);
             let signs: Vec<Signs> = grids.lines().map(of_line).collect();
             for line in grids.lines() {
-                let needs = needs_of_line(&line, &line.forward(), &signs);
+                let needs = needs_of_line(&line, &signs);
                 for index in 0..128 {
                     let need = |direction: usize| {
                         let end = lattice.end(line.first + index, direction);

@@ -102,12 +102,12 @@ impl Table<'_> {
     /// Mends a line as far as its last group with a byte that must be non-zero.
     /// What follows is left to be cleared with more of the kind.
     fn mend_line(&mut self, line: &Line, signs: &[Signs]) {
-        let reaches = line.forward();
-        let needs = needs_of_line(line, &reaches, signs);
+        let needs = needs_of_line(line, signs);
         let mut left = needs.iter().fold(0, |all, need| all | need);
         if left == 0 {
             return;
         }
+        let reaches = line.forward();
         let needs = needs.map(u128::to_le_bytes);
         while left != 0 {
             let group = left.trailing_zeros() as usize / GROUP;

@@ -1,4 +1,4 @@
-//! Walking the lattice by strides, for the fast filling.
+//! Walking the lattice by strides, for the fast filling and mending.
 //!
 //! The points form two cubic grids, corners and centres (document 01, "The
 //! block"). Along a line of one grid, points with the same Y and Z, every
@@ -81,7 +81,6 @@ impl Grids {
                     other,
                     bias,
                     first: own.line_start(j, k),
-                    number: own.line_number(j, k),
                     j,
                     k,
                 })
@@ -102,8 +101,6 @@ pub struct Line {
     bias: isize,
     /// The number of the first point.
     pub first: usize,
-    /// The number of the line; lines are numbered as [`Grids::lines`] goes.
-    pub number: usize,
     j: usize,
     k: usize,
 }
@@ -117,10 +114,6 @@ pub struct Reach {
     pub to: usize,
     /// The other end's number less the point's own.
     pub shift: isize,
-    /// The number of the line on which the other ends lie, if there are any.
-    pub line: usize,
-    /// The other end's index on that line less the point's own.
-    pub step: isize,
 }
 
 impl Reach {
@@ -135,7 +128,30 @@ impl Reach {
     }
 }
 
+/// Where one direction leads from a line.
+#[derive(Clone, Copy, Debug, PartialEq, Eq)]
+pub struct Ahead {
+    /// The number of the line on which the other ends lie.
+    pub line: usize,
+    /// The other end's index on that line less the point's own: -1, 0 or 1.
+    pub step: isize,
+}
+
+/// The line to which one code leads from the points of another: its grid, its
+/// indices there, and the other end's index on it less the point's own.
+struct Target {
+    grid: Grid,
+    j: usize,
+    k: usize,
+    step: isize,
+}
+
 impl Line {
+    /// The number of the line; lines are numbered as [`Grids::lines`] goes.
+    pub fn number(&self) -> usize {
+        self.own.line_number(self.j, self.k)
+    }
+
     /// How many points the line has.
     pub fn count(&self) -> usize {
         self.own.wide[0]
@@ -159,28 +175,48 @@ impl Line {
         std::array::from_fn(|n| self.reach(n % 7, if n < 7 { 1 } else { -1 }))
     }
 
+    /// The lines to which the edges lead that start here in direction 0 to 6.
+    pub fn ahead(&self) -> [Option<Ahead>; 7] {
+        std::array::from_fn(|direction| {
+            let target = self.target(direction, 1)?;
+            Some(Ahead {
+                line: target.grid.line_number(target.j, target.k),
+                step: target.step,
+            })
+        })
+    }
+
     fn reach(&self, direction: usize, sense: isize) -> Reach {
+        let Some(Target { grid, j, k, step }) = self.target(direction, sense) else {
+            return Reach::default();
+        };
+        let start = grid.line_start(j, k) as isize;
+        Reach {
+            from: (-step).max(0) as usize,
+            to: (grid.wide[0] as isize - step).min(self.count() as isize) as usize,
+            shift: start + step - self.first as isize,
+        }
+    }
+
+    fn target(&self, direction: usize, sense: isize) -> Option<Target> {
         let step = DIRECTIONS[direction].map(|s| s as isize * sense);
-        let (target, index_step) = if is_long(direction) {
+        let (grid, index_step) = if is_long(direction) {
             (self.own, step.map(|s| s / 2))
         } else {
             (self.other, step.map(|s| (s + self.bias) / 2))
         };
-        let [wx, wy, wz] = target.wide.map(|w| w as isize);
+        let [_, wy, wz] = grid.wide.map(|w| w as isize);
         let j = self.j as isize + index_step[1];
         let k = self.k as isize + index_step[2];
         if j < 0 || j >= wy || k < 0 || k >= wz {
-            return Reach::default();
+            return None;
         }
-        let (j, k) = (j as usize, k as usize);
-        let start = target.line_start(j, k) as isize;
-        Reach {
-            from: (-index_step[0]).max(0) as usize,
-            to: (wx - index_step[0]).min(self.count() as isize) as usize,
-            shift: start + index_step[0] - self.first as isize,
-            line: target.line_number(j, k),
+        Some(Target {
+            grid,
+            j: j as usize,
+            k: k as usize,
             step: index_step[0],
-        }
+        })
     }
 }
 
@@ -197,15 +233,16 @@ mod tests {
             let lines: Vec<Line> = grids.lines().collect();
             let mut next = 0;
             for (number, line) in lines.iter().enumerate() {
-                assert_eq!((line.number, line.first), (number, next));
+                assert_eq!((line.number(), line.first), (number, next));
                 next += line.count();
-                check_line(&lattice, &lines, line);
+                check_line(&lattice, line);
+                check_ahead(&lattice, &lines, line);
             }
             assert_eq!(next, lattice.point_count());
         }
     }
 
-    fn check_line(lattice: &Lattice, lines: &[Line], line: &Line) {
+    fn check_line(lattice: &Lattice, line: &Line) {
         for index in 0..line.count() {
             let point = line.first + index;
             let at_end = index == 0 || index == line.count() - 1;
@@ -218,11 +255,20 @@ mod tests {
                 };
                 let stepped = reach.covers(index).then(|| reach.other_end(point));
                 assert_eq!(decoded, stepped);
-                if let Some(other) = decoded {
-                    let other_index = index.wrapping_add_signed(reach.step);
-                    assert_eq!(other, lines[reach.line].first + other_index);
-                    assert!(other_index < lines[reach.line].count());
-                }
+            }
+        }
+    }
+
+    fn check_ahead(lattice: &Lattice, lines: &[Line], line: &Line) {
+        for index in 0..line.count() {
+            for (direction, ahead) in line.ahead().iter().enumerate() {
+                let other_end = |ahead: &Ahead| {
+                    let other = lines[ahead.line];
+                    let index = index.checked_add_signed(ahead.step)?;
+                    (index < other.count()).then_some(other.first + index)
+                };
+                let stepped = ahead.as_ref().and_then(other_end);
+                assert_eq!(lattice.end(line.first + index, direction), stepped);
             }
         }
     }
