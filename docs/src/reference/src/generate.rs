@@ -125,9 +125,9 @@ pub fn wide_band(random: &mut Random, block: &Block) -> u32 {
 }
 
 /// A random block with sizes from 1 to 5 and a cut table that mostly wants
-/// mending: bytes are missing and stray anywhere, also where no edge is. Rubber
-/// is on the rim too, except in some of the blocks, which filling accepts once
-/// they are mended. Cut bytes that must be there are of any value.
+/// mending: bytes are missing and stray anywhere, also where there is no edge,
+/// and good bytes are of any value. One block in three has no rubber on its
+/// rim, and filling accepts it once it is mended.
 pub fn worn_block(random: &mut Random) -> Block {
     let sizes = [0; 3].map(|_| any_size(random, 5));
     worn_block_of(random, sizes)
@@ -146,80 +146,19 @@ pub fn worn_block_of(random: &mut Random, sizes: [u32; 3]) -> Block {
     }
 }
 
-/// Samples of any signs in one of the mixes, with rubber on the rim in two
-/// blocks of three, and of sizes that are hard to mend with.
 fn worn_samples(random: &mut Random, lattice: &Lattice) -> Vec<i16> {
     let mix = random.pick(&MIXES);
     let shape = Shape::new(random, lattice);
     let sizing = Sizing::new(random);
-    let is_rim_of_air = random.below(3) == 0;
-    let mut samples = Vec::new();
-    for point in 0..lattice.point_count() {
+    let has_rim_of_air = random.below(3) == 0;
+    let sample = |point| {
         let mut label = random_label(random, lattice, mix, &shape, point);
-        if is_rim_of_air && lattice.is_rim(point) && label > 0 {
+        if has_rim_of_air && lattice.is_rim(point) && label > 0 {
             label = -1;
         }
-        samples.push(sizing.sample(random, label));
-    }
-    samples
-}
-
-/// How the sizes of the samples of one worn block are drawn.
-enum Sizing {
-    /// One size for plus and one for minus: all the quotients of the block end
-    /// in exactly one half.
-    Halves { plus: i64, minus: i64 },
-    /// Of any order of magnitude.
-    AnyScale,
-    /// Only these, [`extreme_sizes`].
-    Extreme(Vec<u16>),
-    /// 1 and the largest.
-    Ends,
-    /// The lowest sample, and the sizes that show what its size is.
-    Lowest,
-}
-
-impl Sizing {
-    fn new(random: &mut Random) -> Sizing {
-        match random.below(6) {
-            0 => {
-                // Quotients that end in one half are odd 512ths times 256.
-                let part = random.between(1, 127);
-                let least = (512 - 32768 / part).max(1);
-                let most = (32767 / part).min(511);
-                let between = random.between(least, most);
-                let odd = random.pick(&[least, between, most]) | 1;
-                let parts = if odd > most { odd - 2 } else { odd };
-                let (plus, minus) = (parts * part, (512 - parts) * part);
-                Sizing::Halves { plus, minus }
-            }
-            1 => Sizing::AnyScale,
-            2 => Sizing::Ends,
-            3 => Sizing::Lowest,
-            _ => Sizing::Extreme(extreme_sizes().to_vec()),
-        }
-    }
-
-    /// A sample of this sign; the largest size is another one for plus than
-    /// for minus.
-    fn sample(&self, random: &mut Random, label: i32) -> i16 {
-        let size = match self {
-            Sizing::Halves { plus, minus } if random.below(10) != 0 => {
-                if label > 0 {
-                    *plus
-                } else {
-                    *minus
-                }
-            }
-            Sizing::AnyScale | Sizing::Halves { .. } => any_scale(random),
-            Sizing::Extreme(sizes) => i64::from(random.pick(sizes)),
-            Sizing::Ends => random.pick(&[1, 32768]),
-            Sizing::Lowest if label > 0 => random.pick(&BESIDE_LOWEST),
-            Sizing::Lowest => 32768,
-        };
-        let sample = i64::from(label) * size;
-        sample.clamp(-32768, 32767) as i16
-    }
+        sizing.sample(random, label)
+    };
+    (0..lattice.point_count()).map(sample).collect()
 }
 
 /// A cut byte of any value, often an outermost one.
@@ -231,15 +170,8 @@ fn any_cut(random: &mut Random) -> u8 {
     }
 }
 
-/// Some of the sizes that show whether the size of -32768 was taken for 32,767:
-/// their quotients with it, from either end, are close to one half, and one
-/// more or less decides. There are 60 such sizes.
-pub const BESIDE_LOWEST: [i64; 10] = [
-    3312, 4105, 7465, 9922, 13450, 16145, 20833, 25284, 30068, 32008,
-];
-
 /// Takes bytes away from a good cut table and puts others anywhere, or empties
-/// it, or leaves it as it is, or forgets it.
+/// it, or leaves it as it is, or makes every byte any other.
 fn wear(random: &mut Random, cuts: &mut [u8]) {
     match random.below(10) {
         0 => return cuts.fill(0),
@@ -258,10 +190,101 @@ fn wear(random: &mut Random, cuts: &mut [u8]) {
     }
 }
 
-/// 200 different sizes of samples, from 1 to 32,768, with which mending
-/// (document 02, request F-4) is hardest: both ends, powers of two and their
-/// neighbours, pairs whose quotients must just be held within 1 to 255 or just
-/// not, pairs whose quotients end in one half, and [`BESIDE_LOWEST`].
+/// How the sizes of the samples of one worn block are drawn.
+enum Sizing {
+    /// Mostly one size for plus and one for minus, with quotients that end in
+    /// exactly one half.
+    Halves { plus: i64, minus: i64 },
+    /// Of any order of magnitude.
+    AnyScale,
+    /// 1 and the largest.
+    Ends,
+    /// The lowest sample, and sizes that show what its size is.
+    Lowest,
+    /// Only these, [`extreme_sizes`].
+    Extreme(Vec<u16>),
+}
+
+impl Sizing {
+    fn new(random: &mut Random) -> Sizing {
+        match random.below(6) {
+            0 => Sizing::halves(random),
+            1 => Sizing::AnyScale,
+            2 => Sizing::Ends,
+            3 => Sizing::Lowest,
+            _ => Sizing::Extreme(extreme_sizes().to_vec()),
+        }
+    }
+
+    /// Two sizes that are odd 512ths of their sum.
+    fn halves(random: &mut Random) -> Sizing {
+        let part = random.between(1, 127);
+        let least = (512 - 32768 / part).max(1);
+        let most = (32767 / part).min(511);
+        let between = random.between(least, most);
+        let mut odd = random.pick(&[least, between, most]) | 1;
+        if odd > most {
+            odd -= 2;
+        }
+        Sizing::Halves {
+            plus: odd * part,
+            minus: (512 - odd) * part,
+        }
+    }
+
+    /// A sample of this sign. The largest size is 32,768 for minus and one less
+    /// for plus.
+    fn sample(&self, random: &mut Random, label: i32) -> i16 {
+        let size = match self {
+            Sizing::Halves { .. } if random.percent(10) => any_scale(random),
+            Sizing::Halves { plus, .. } if label > 0 => *plus,
+            Sizing::Halves { minus, .. } => *minus,
+            Sizing::AnyScale => any_scale(random),
+            Sizing::Ends => random.pick(&[1, 32768]),
+            Sizing::Lowest if label > 0 => random.pick(&BESIDE_LOWEST),
+            Sizing::Lowest => 32768,
+            Sizing::Extreme(sizes) => i64::from(random.pick(sizes)),
+        };
+        let sample = i64::from(label) * size;
+        sample.clamp(-32768, 32767) as i16
+    }
+}
+
+/// Some of the 60 sizes that show whether the size of -32768 was taken for
+/// 32,767: their quotients with it, from either end, are so close to one half
+/// that it matters.
+pub const BESIDE_LOWEST: [i64; 10] = [
+    3312, 4105, 7465, 9922, 13450, 16145, 20833, 25284, 30068, 32008,
+];
+
+/// Pairs of sizes whose quotients end in one half, as a part and an odd number:
+/// the sum has 512 such parts, and the one size this many of them.
+const HALVES: [(i64, i64); 18] = [
+    (1, 3),
+    (1, 127),
+    (1, 253),
+    (2, 5),
+    (3, 101),
+    (5, 255),
+    (7, 77),
+    (11, 199),
+    (31, 15),
+    (48, 9),
+    (63, 19),
+    (64, 3),
+    (65, 9),
+    (80, 111),
+    (97, 255),
+    (100, 201),
+    (126, 253),
+    (127, 255),
+];
+
+/// 200 different sizes of samples, from 1 to 32,768, with which mending is
+/// hardest: both ends, powers of two and their neighbours, pairs whose
+/// quotients must just be held within 1 to 255 or just not, pairs whose
+/// quotients end in one half, [`BESIDE_LOWEST`], and others of all orders of
+/// magnitude.
 pub fn extreme_sizes() -> [u16; 200] {
     let mut wanted: Vec<i64> = vec![1, 32768];
     for power in (1..=15).map(|n| 1 << n) {
@@ -271,31 +294,10 @@ pub fn extreme_sizes() -> [u16; 200] {
     for less in [1, 2, 3, 4, 5, 7, 9, 15, 16, 17, 31, 32, 33, 62, 63, 64] {
         wanted.extend([less, 511 * less, 511 * less - 1, 511 * less + 1]);
     }
-    // Quotients end in one half where both sizes are odd 512ths of the sum.
-    for (part, odd) in [
-        (1, 3),
-        (1, 127),
-        (1, 253),
-        (2, 5),
-        (3, 101),
-        (5, 255),
-        (7, 77),
-        (11, 199),
-        (31, 15),
-        (48, 9),
-        (63, 19),
-        (64, 3),
-        (65, 9),
-        (80, 111),
-        (97, 255),
-        (100, 201),
-        (126, 253),
-        (127, 255),
-    ] {
+    for (part, odd) in HALVES {
         wanted.extend([part * odd, part * (512 - odd)]);
     }
     wanted.extend(BESIDE_LOWEST);
-    // Any others, of all orders of magnitude.
     let mut random = Random::new(200);
     wanted.extend((0..1000).map(|_| any_scale(&mut random)));
     let mut sizes = Vec::new();

@@ -1,10 +1,11 @@
-//! Filling a block sentence by sentence: slow, simple, the oracle.
+//! Filling a block and mending a cut table sentence by sentence: slow, simple,
+//! the oracle.
 //!
 //! Follows document 01, "The block", "Moving points", "Lattice tetrahedra and
 //! rows" and "Calls and refusals" in their order, and in "Moving points"
-//! requests F-2 and F-3 of document 02. Every number is decoded, every
-//! tetrahedron listed, every corner sorted, every six-volume computed from the
-//! places of the moved points.
+//! requests F-2 and F-3 of document 02; for mending, request F-4. Every number
+//! is decoded, every tetrahedron listed, every corner sorted, every six-volume
+//! computed from the places of the moved points.
 
 use crate::cut::{edge_of_code, place_of_cut, place_of_point, six_volume, violation, Place};
 use crate::fill::Filled;
@@ -109,61 +110,6 @@ fn must_be_cut(lattice: &Lattice, samples: &[i16], offset: usize) -> bool {
             let (a, b) = (samples[start], samples[end]);
             (a > 0 && b < 0) || (a < 0 && b > 0)
         }
-    }
-}
-
-/// Mends a cut table; same contract as [`crate::mend::mend`].
-pub fn mend(nx: u32, ny: u32, nz: u32, samples: &[i16], cuts: &mut [u8]) -> Mended {
-    let Some(lattice) = Lattice::new(nx, ny, nz) else {
-        return Mended::refused(refusal::SIZE);
-    };
-    let n = lattice.point_count();
-    if samples.len() != n {
-        return Mended::refused(refusal::SAMPLES);
-    }
-    if cuts.len() != 7 * n {
-        return Mended::refused(refusal::CUTS);
-    }
-    let (mut filled, mut cleared) = (0, 0);
-    for (offset, byte) in cuts.iter_mut().enumerate() {
-        let must_be_cut = must_be_cut(&lattice, samples, offset);
-        if must_be_cut && *byte == 0 {
-            let (start, direction) = (offset / 7, offset % 7);
-            let end = lattice.end(start, direction).expect("an edge");
-            *byte = missing_byte(samples[start], samples[end]);
-            filled += 1;
-        }
-        if !must_be_cut && *byte != 0 {
-            *byte = 0;
-            cleared += 1;
-        }
-    }
-    Mended {
-        number: refusal::NONE,
-        filled,
-        cleared,
-    }
-}
-
-/// What a missing byte becomes, from the samples at its edge's start and end:
-/// "256 times the start's sample size divided by the sum of both sizes, rounded
-/// half up and held within 1 to 255".
-///
-/// Nothing is divided: a quotient rounded half up is the one whole number that
-/// it lies at most one half below or less than one half above, and dividend and
-/// divisor say that by products alone.
-pub fn missing_byte(start: i16, end: i16) -> u8 {
-    let size = |sample: i16| i64::from(sample).abs();
-    let (dividend, divisor) = (256 * size(start), size(start) + size(end));
-    let rounds_to = |whole: &i64| {
-        let twice_above = 2 * (dividend - whole * divisor);
-        -divisor <= twice_above && twice_above < divisor
-    };
-    let rounded = (0..=256).find(rounds_to);
-    match rounded.expect("a quotient from 0 to 256") {
-        0 => 1,
-        256 => 255,
-        within => within as u8,
     }
 }
 
@@ -354,5 +300,60 @@ pub fn place_of(lattice: &Lattice, cuts: &[u8], codes: &[u8], corner: Corner) ->
             Some((edge, _)) => place_of_cut(lattice, edge, cuts[edge.offset()]),
         },
         Corner::Cut(edge) => place_of_cut(lattice, edge, cuts[edge.offset()]),
+    }
+}
+
+/// Mends a cut table; same contract as [`crate::mend::mend`].
+pub fn mend(nx: u32, ny: u32, nz: u32, samples: &[i16], cuts: &mut [u8]) -> Mended {
+    let Some(lattice) = Lattice::new(nx, ny, nz) else {
+        return Mended::refused(refusal::SIZE);
+    };
+    let n = lattice.point_count();
+    if samples.len() != n {
+        return Mended::refused(refusal::SAMPLES);
+    }
+    if cuts.len() != 7 * n {
+        return Mended::refused(refusal::CUTS);
+    }
+    let (mut filled, mut cleared) = (0, 0);
+    for (offset, byte) in cuts.iter_mut().enumerate() {
+        let must_be_cut = must_be_cut(&lattice, samples, offset);
+        if must_be_cut && *byte == 0 {
+            let (start, direction) = (offset / 7, offset % 7);
+            let end = lattice.end(start, direction).expect("an edge");
+            *byte = missing_byte(samples[start], samples[end]);
+            filled += 1;
+        }
+        if !must_be_cut && *byte != 0 {
+            *byte = 0;
+            cleared += 1;
+        }
+    }
+    Mended {
+        number: refusal::NONE,
+        filled,
+        cleared,
+    }
+}
+
+/// What a missing byte becomes, from the samples at its edge's start and end:
+/// "256 times the start's sample size divided by the sum of both sizes, rounded
+/// half up and held within 1 to 255".
+///
+/// Nothing is divided: a quotient rounded half up is the one whole number that
+/// it lies at most one half below or less than one half above, and dividend and
+/// divisor say that by products alone.
+pub fn missing_byte(start: i16, end: i16) -> u8 {
+    let size = |sample: i16| i64::from(sample).abs();
+    let (dividend, divisor) = (256 * size(start), size(start) + size(end));
+    let rounds_to = |whole: &i64| {
+        let twice_above = 2 * (dividend - whole * divisor);
+        -divisor <= twice_above && twice_above < divisor
+    };
+    let rounded = (0..=256).find(rounds_to);
+    match rounded.expect("a quotient from 0 to 256") {
+        0 => 1,
+        256 => 255,
+        within => within as u8,
     }
 }

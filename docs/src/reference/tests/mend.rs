@@ -301,7 +301,7 @@ fn on_worn_blocks() {
     assert!(seen.cleared > 3_500_000, "{seen:?}");
     assert!(seen.off_edges > 1_200_000, "{seen:?}");
     assert!(seen.long > 180_000 && seen.short > 400_000, "{seen:?}");
-    assert!(seen.halves > 70_000, "{seen:?}");
+    assert!(seen.halves > 60_000, "{seen:?}");
     assert!(seen.held_to_1 > 40_000, "{seen:?}");
     assert!(seen.held_to_255 > 40_000, "{seen:?}");
     assert!(seen.equal_sizes > 25_000, "{seen:?}");
