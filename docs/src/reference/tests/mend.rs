@@ -98,8 +98,8 @@ enum Rounding {
 /// Checks a byte filled in between samples of these sizes: within half a step
 /// of the exact quotient, or under one step where it was held.
 ///
-/// The quotient is 256a / (a + b). With two times the sum as the unit the byte
-/// is 2(a + b) times itself and the quotient 512a.
+/// The quotient is 256a / (a + b). Counted in parts, 2(a + b) of them a step,
+/// it is 512a.
 fn check_filled(a: i64, b: i64, byte: u8) -> Rounding {
     let byte = i64::from(byte);
     let (step, quotient) = (2 * (a + b), 512 * a);
@@ -547,6 +547,14 @@ fn the_given_case() {
     mended[92] = 200;
     assert_eq!(fill_number(&worn, 0, &worn.cuts), 6);
     assert_eq!(mend_both(&worn), (answer(1, 2), mended));
+    // A sample of zero beside rubber: the cut between them is stray.
+    let mut zero = good.clone();
+    zero.samples[14] = 0;
+    let mut mended = good.cuts.clone();
+    mended[91] = 0;
+    assert_eq!(mend_both(&zero), (answer(0, 1), mended.clone()));
+    zero.cuts.fill(0);
+    assert_eq!(mend_both(&zero), (answer(13, 0), mended));
     // Without rubber every byte is stray, and without air.
     for sample in [-5, 0, 5] {
         worn.samples.fill(sample);
