@@ -80,7 +80,7 @@ pub fn test_cuts(grids: &Grids, labels: &[u8], cuts: &[u8]) -> Result<Vec<u32>, 
 }
 
 /// Sets bit d of a point's need if its edge in direction d must be cut.
-fn find_needs(line: &Line, reaches: &[Reach; 7], labels: &[u8], needs: &mut [u8]) {
+pub fn find_needs(line: &Line, reaches: &[Reach; 7], labels: &[u8], needs: &mut [u8]) {
     for (direction, reach) in reaches.iter().enumerate() {
         let count = reach.to - reach.from;
         let starts = line.first + reach.from;
@@ -95,7 +95,8 @@ fn find_needs(line: &Line, reaches: &[Reach; 7], labels: &[u8], needs: &mut [u8]
     }
 }
 
-fn any_bit(bytes: &[u8]) -> bool {
+/// Whether one of the bytes is not zero.
+pub fn any_bit(bytes: &[u8]) -> bool {
     bytes.iter().fold(0, |all, byte| all | byte) != 0
 }
 
@@ -128,7 +129,7 @@ fn test_line(
 }
 
 /// Bit d is set if byte d is a cut.
-fn bits_of_cuts(seven: &[u8; 7]) -> u8 {
+pub fn bits_of_cuts(seven: &[u8; 7]) -> u8 {
     (0..7).fold(0, |bits, d| bits | u8::from(seven[d] != 0) << d)
 }
 

@@ -1,6 +1,7 @@
 //! Random valid blocks (document 01, "The block"), in several mixes of labels
 //! and with cut bytes often at the limits of violation; and random bands
-//! (document 02, request F-3).
+//! (document 02, request F-3). And blocks with a worn cut table (request F-4),
+//! which need mending, and the sizes of samples at which mending is hardest.
 
 use crate::block::Block;
 use crate::fill::LARGEST_BAND;
@@ -121,6 +122,157 @@ pub fn wide_band(random: &mut Random, block: &Block) -> u32 {
     let taken_in = (sizes.len() * percent).div_ceil(100);
     let largest_taken_in = sizes[..taken_in].last().copied();
     largest_taken_in.unwrap_or(0).min(LARGEST_BAND)
+}
+
+/// A random block with sizes from 1 to 5 and a cut table that mostly wants
+/// mending: bytes are missing and stray anywhere, also where no edge is. Rubber
+/// is on the rim too, except in some of the blocks, which filling accepts once
+/// they are mended. Cut bytes that must be there are of any value.
+pub fn worn_block(random: &mut Random) -> Block {
+    let sizes = [0; 3].map(|_| any_size(random, 5));
+    let lattice = Lattice::new(sizes[0], sizes[1], sizes[2]).expect("allowed sizes");
+    let samples = worn_samples(random, &lattice);
+    let mut cuts = cuts_where_needed(&lattice, &samples, |_, _| any_cut(random));
+    wear(random, &mut cuts);
+    Block {
+        sizes,
+        samples,
+        cuts,
+    }
+}
+
+/// Samples of any signs in one of the mixes, with rubber on the rim in two
+/// blocks of three, and of sizes that are hard to mend with.
+fn worn_samples(random: &mut Random, lattice: &Lattice) -> Vec<i16> {
+    let mix = random.pick(&MIXES);
+    let shape = Shape::new(random, lattice);
+    let sizing = Sizing::new(random);
+    let is_rim_of_air = random.below(3) == 0;
+    let mut samples = Vec::new();
+    for point in 0..lattice.point_count() {
+        let mut label = random_label(random, lattice, mix, &shape, point);
+        if is_rim_of_air && lattice.is_rim(point) && label > 0 {
+            label = -1;
+        }
+        samples.push(sizing.sample(random, label));
+    }
+    samples
+}
+
+/// How the sizes of the samples of one worn block are drawn.
+enum Sizing {
+    /// One size for plus and one for minus: all the quotients of the block end
+    /// in exactly one half.
+    Halves { plus: i64, minus: i64 },
+    /// Of any order of magnitude.
+    AnyScale,
+    /// Only these, [`extreme_sizes`].
+    Extreme(Vec<u16>),
+    /// 1 and the largest.
+    Ends,
+}
+
+impl Sizing {
+    fn new(random: &mut Random) -> Sizing {
+        match random.below(5) {
+            0 => {
+                // Quotients that end in one half are odd 512ths times 256.
+                let part = random.between(1, 127);
+                let least = (512 - 32768 / part).max(1);
+                let most = (32767 / part).min(511);
+                let between = random.between(least, most);
+                let odd = random.pick(&[least, between, most]) | 1;
+                let parts = if odd > most { odd - 2 } else { odd };
+                let (plus, minus) = (parts * part, (512 - parts) * part);
+                Sizing::Halves { plus, minus }
+            }
+            1 => Sizing::AnyScale,
+            2 => Sizing::Ends,
+            _ => Sizing::Extreme(extreme_sizes().to_vec()),
+        }
+    }
+
+    /// A sample of this sign; the largest size is another one for plus than
+    /// for minus.
+    fn sample(&self, random: &mut Random, label: i32) -> i16 {
+        let size = match self {
+            Sizing::Halves { plus, minus } if random.below(10) != 0 => {
+                if label > 0 {
+                    *plus
+                } else {
+                    *minus
+                }
+            }
+            Sizing::AnyScale | Sizing::Halves { .. } => any_scale(random),
+            Sizing::Extreme(sizes) => i64::from(random.pick(sizes)),
+            Sizing::Ends => random.pick(&[1, 32768]),
+        };
+        let sample = i64::from(label) * size;
+        sample.clamp(-32768, 32767) as i16
+    }
+}
+
+/// A cut byte of any value, often an outermost one.
+fn any_cut(random: &mut Random) -> u8 {
+    match random.below(8) {
+        0 => 1,
+        1 => 255,
+        _ => random.between(1, 255) as u8,
+    }
+}
+
+/// Takes bytes away from a good cut table and puts others anywhere, or empties
+/// it, or leaves it as it is, or forgets it.
+fn wear(random: &mut Random, cuts: &mut [u8]) {
+    match random.below(10) {
+        0 => return cuts.fill(0),
+        1 => return,
+        2 => return cuts.fill_with(|| random.bits() as u8),
+        _ => {}
+    }
+    let missing = random.pick(&[0, 1, 10, 50, 100]);
+    let stray = random.pick(&[0, 1, 10, 50, 100]);
+    for byte in cuts {
+        if *byte != 0 && random.percent(missing) {
+            *byte = 0;
+        } else if *byte == 0 && random.percent(stray) {
+            *byte = any_cut(random);
+        }
+    }
+}
+
+/// 200 different sizes of samples, from 1 to 32,768, with which mending
+/// (document 02, request F-4) is hardest: both ends, powers of two and their
+/// neighbours, the least ones, and partners of those, with which a quotient
+/// ends in one half, is the last to be held within 1 to 255 or the first that
+/// need not be.
+pub fn extreme_sizes() -> [u16; 200] {
+    let mut wanted: Vec<i64> = vec![1, 32768];
+    for power in (1..=15).map(|n| 1 << n) {
+        wanted.extend([power, power - 1, power + 1]);
+    }
+    // A size is held if it stands against more than 511 times itself.
+    for less in [1, 2, 3, 4, 5, 7, 9, 15, 16, 17, 31, 32, 33, 62, 63, 64] {
+        wanted.extend([less, 511 * less, 511 * less - 1, 511 * less + 1]);
+    }
+    // Halves: both sizes are odd 512ths of their sum.
+    for (part, odd) in [(1, 3), (1, 127), (1, 253), (2, 5), (3, 101), (5, 255)] {
+        wanted.extend([part * odd, part * (512 - odd)]);
+    }
+    for part in [97, 126, 127] {
+        wanted.extend([part * 255, part * 256, part * 257]);
+    }
+    // Any others, of all orders of magnitude.
+    let mut random = Random::new(200);
+    wanted.extend((0..1000).map(|_| any_scale(&mut random)));
+    let mut sizes = Vec::new();
+    for size in wanted {
+        let allowed = (1..=32768).contains(&size);
+        if allowed && sizes.len() < 200 && !sizes.contains(&(size as u16)) {
+            sizes.push(size as u16);
+        }
+    }
+    sizes.try_into().expect("200 sizes")
 }
 
 /// A random size; the larger of two, as small blocks are all rim.

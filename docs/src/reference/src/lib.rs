@@ -41,6 +41,7 @@ pub mod fill;
 pub mod generate;
 pub mod lattice;
 pub mod mark;
+pub mod mend;
 pub mod metric;
 pub mod place;
 pub mod plain;

@@ -9,6 +9,7 @@
 use crate::cut::{edge_of_code, place_of_cut, place_of_point, six_volume, violation, Place};
 use crate::fill::Filled;
 use crate::lattice::{Edge, Lattice};
+use crate::mend::Mended;
 use crate::refusal;
 
 /// A corner in a row: a lattice point or the cut of an edge.
@@ -87,14 +88,7 @@ fn lowest_plus_on_rim(lattice: &Lattice, samples: &[i16]) -> Option<usize> {
 /// that refusal.
 fn lowest_wrong_byte(lattice: &Lattice, samples: &[i16], cuts: &[u8]) -> Option<(u32, usize)> {
     for (offset, &byte) in cuts.iter().enumerate() {
-        let (start, direction) = (offset / 7, offset % 7);
-        let must_be_cut = match lattice.end(start, direction) {
-            None => false,
-            Some(end) => {
-                let (a, b) = (samples[start], samples[end]);
-                (a > 0 && b < 0) || (a < 0 && b > 0)
-            }
-        };
+        let must_be_cut = must_be_cut(lattice, samples, offset);
         if must_be_cut && byte == 0 {
             return Some((refusal::GAP, offset));
         }
@@ -103,6 +97,74 @@ fn lowest_wrong_byte(lattice: &Lattice, samples: &[i16], cuts: &[u8]) -> Option<
         }
     }
     None
+}
+
+/// "A byte must be non-zero exactly where the edge exists and one end's sample
+/// is above zero and the other's below."
+fn must_be_cut(lattice: &Lattice, samples: &[i16], offset: usize) -> bool {
+    let (start, direction) = (offset / 7, offset % 7);
+    match lattice.end(start, direction) {
+        None => false,
+        Some(end) => {
+            let (a, b) = (samples[start], samples[end]);
+            (a > 0 && b < 0) || (a < 0 && b > 0)
+        }
+    }
+}
+
+/// Mends a cut table; same contract as [`crate::mend::mend`].
+pub fn mend(nx: u32, ny: u32, nz: u32, samples: &[i16], cuts: &mut [u8]) -> Mended {
+    let Some(lattice) = Lattice::new(nx, ny, nz) else {
+        return Mended::refused(refusal::SIZE);
+    };
+    let n = lattice.point_count();
+    if samples.len() != n {
+        return Mended::refused(refusal::SAMPLES);
+    }
+    if cuts.len() != 7 * n {
+        return Mended::refused(refusal::CUTS);
+    }
+    let (mut filled, mut cleared) = (0, 0);
+    for (offset, byte) in cuts.iter_mut().enumerate() {
+        let must_be_cut = must_be_cut(&lattice, samples, offset);
+        if must_be_cut && *byte == 0 {
+            let (start, direction) = (offset / 7, offset % 7);
+            let end = lattice.end(start, direction).expect("an edge");
+            *byte = missing_byte(samples[start], samples[end]);
+            filled += 1;
+        }
+        if !must_be_cut && *byte != 0 {
+            *byte = 0;
+            cleared += 1;
+        }
+    }
+    Mended {
+        number: refusal::NONE,
+        filled,
+        cleared,
+    }
+}
+
+/// What a missing byte becomes, from the samples at its edge's start and end:
+/// "256 times the start's sample size divided by the sum of both sizes, rounded
+/// half up and held within 1 to 255".
+///
+/// Nothing is divided: a quotient rounded half up is the one whole number that
+/// it lies at most one half below or less than one half above, and dividend and
+/// divisor say that by products alone.
+pub fn missing_byte(start: i16, end: i16) -> u8 {
+    let size = |sample: i16| i64::from(sample).abs();
+    let (dividend, divisor) = (256 * size(start), size(start) + size(end));
+    let rounds_to = |whole: &i64| {
+        let twice_above = 2 * (dividend - whole * divisor);
+        -divisor <= twice_above && twice_above < divisor
+    };
+    let rounded = (0..=256).find(rounds_to);
+    match rounded.expect("a quotient from 0 to 256") {
+        0 => 1,
+        256 => 255,
+        within => within as u8,
+    }
 }
 
 /// A point's label: its sample's sign, 1 plus, -1 minus, or 0. "A sample whose

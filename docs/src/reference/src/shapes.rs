@@ -49,6 +49,13 @@ pub fn ribs() -> Block {
     })
 }
 
+/// The same block with an empty cut table, for mending (document 02, request
+/// F-4).
+pub fn emptied(mut block: Block) -> Block {
+    block.cuts.fill(0);
+    block
+}
+
 /// How deep a place lies in the nearest of many parallel ribs; their
 /// thickness goes round from 1 to 2 cubes.
 fn rib(across: f64, spacing: f64) -> f64 {
