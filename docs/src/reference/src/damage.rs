@@ -1,8 +1,9 @@
-//! Calls of filling that must be refused, and why.
+//! Calls of filling and of mending that must be refused, and why.
 //!
 //! Each refusal of filling (document 01, "Calls and refusals": 1 to 7 and 10;
-//! document 02, request F-3: 14) has one kind of damage. Several damages can
-//! be done to one call, to see in which order the refusals come.
+//! document 02, request F-3: 14) has one kind of damage, and mending (request
+//! F-4) shares the first of them. Several damages can be done to one call, to
+//! see in which order the refusals come.
 
 use crate::block::Block;
 use crate::fill::Filled;
@@ -60,6 +61,9 @@ pub const DAMAGES: [Damage; 9] = [
     Damage::Stray,
     Damage::Table,
 ];
+
+/// The damages that mending refuses, in the order in which it finds them.
+pub const MEND_DAMAGES: [Damage; 3] = [Damage::Size, Damage::Samples, Damage::Cuts];
 
 impl Damage {
     /// The refusal of a call with only this damage.
@@ -195,6 +199,44 @@ impl Call {
         self.block.cuts[random.pick(&fitting)] = byte;
         true
     }
+}
+
+/// The sizes, samples and cut table of a call of mending that must be refused,
+/// for one reason or for several. If the only reason is a size that is just not
+/// allowed, both tables are as long as they would have to be if it were. The
+/// tables hold anything.
+pub fn mend_call(random: &mut Random) -> ([u32; 3], Vec<i16>, Vec<u8>) {
+    let mut sizes = [0; 3].map(|_| random.between(1, 4) as u32);
+    let wrong = random.between(1, 7);
+    let is_wrong = |n: usize| wrong >> n & 1 != 0;
+    let mut n = count_points(sizes);
+    if is_wrong(0) {
+        let axis = random.below(3);
+        if random.percent(60) {
+            sizes[axis] = random.pick(&[0, 65, 66]);
+            n = count_points(sizes);
+        } else {
+            sizes[axis] = random.pick(&[255, 256, 1 << 16, 1 << 31, u32::MAX]);
+        }
+    }
+    let mut sample_count = n;
+    if is_wrong(1) {
+        sample_count = random.pick(&[0, n - 1, n + 1, 2 * n, 7 * n]);
+    }
+    let mut byte_count = 7 * n;
+    if is_wrong(2) {
+        let of_as_many_samples = 7 * (sample_count + usize::from(sample_count == n));
+        byte_count = random.pick(&[0, 7 * n - 1, 7 * n + 1, n, 7 * n + 7, of_as_many_samples]);
+    }
+    let samples = (0..sample_count).map(|_| random.bits() as i16).collect();
+    let cuts = (0..byte_count).map(|_| random.bits() as u8).collect();
+    (sizes, samples, cuts)
+}
+
+/// The count of points by the formula of document 01, whatever the sizes.
+fn count_points(sizes: [u32; 3]) -> usize {
+    let corners: usize = sizes.iter().map(|&size| size as usize + 1).product();
+    corners + sizes.iter().map(|&size| size as usize).product::<usize>()
 }
 
 /// Makes a table one entry too long, one too short, or empty.

@@ -130,6 +130,11 @@ pub fn wide_band(random: &mut Random, block: &Block) -> u32 {
 /// they are mended. Cut bytes that must be there are of any value.
 pub fn worn_block(random: &mut Random) -> Block {
     let sizes = [0; 3].map(|_| any_size(random, 5));
+    worn_block_of(random, sizes)
+}
+
+/// The same with these sizes, which must be allowed ones.
+pub fn worn_block_of(random: &mut Random, sizes: [u32; 3]) -> Block {
     let lattice = Lattice::new(sizes[0], sizes[1], sizes[2]).expect("allowed sizes");
     let samples = worn_samples(random, &lattice);
     let mut cuts = cuts_where_needed(&lattice, &samples, |_, _| any_cut(random));
@@ -170,11 +175,13 @@ enum Sizing {
     Extreme(Vec<u16>),
     /// 1 and the largest.
     Ends,
+    /// The lowest sample, and the sizes that show what its size is.
+    Lowest,
 }
 
 impl Sizing {
     fn new(random: &mut Random) -> Sizing {
-        match random.below(5) {
+        match random.below(6) {
             0 => {
                 // Quotients that end in one half are odd 512ths times 256.
                 let part = random.between(1, 127);
@@ -188,6 +195,7 @@ impl Sizing {
             }
             1 => Sizing::AnyScale,
             2 => Sizing::Ends,
+            3 => Sizing::Lowest,
             _ => Sizing::Extreme(extreme_sizes().to_vec()),
         }
     }
@@ -206,6 +214,8 @@ impl Sizing {
             Sizing::AnyScale | Sizing::Halves { .. } => any_scale(random),
             Sizing::Extreme(sizes) => i64::from(random.pick(sizes)),
             Sizing::Ends => random.pick(&[1, 32768]),
+            Sizing::Lowest if label > 0 => random.pick(&BESIDE_LOWEST),
+            Sizing::Lowest => 32768,
         };
         let sample = i64::from(label) * size;
         sample.clamp(-32768, 32767) as i16
@@ -220,6 +230,13 @@ fn any_cut(random: &mut Random) -> u8 {
         _ => random.between(1, 255) as u8,
     }
 }
+
+/// Some of the sizes that show whether the size of -32768 was taken for 32,767:
+/// their quotients with it, from either end, are close to one half, and one
+/// more or less decides. There are 60 such sizes.
+pub const BESIDE_LOWEST: [i64; 10] = [
+    3312, 4105, 7465, 9922, 13450, 16145, 20833, 25284, 30068, 32008,
+];
 
 /// Takes bytes away from a good cut table and puts others anywhere, or empties
 /// it, or leaves it as it is, or forgets it.
@@ -243,25 +260,41 @@ fn wear(random: &mut Random, cuts: &mut [u8]) {
 
 /// 200 different sizes of samples, from 1 to 32,768, with which mending
 /// (document 02, request F-4) is hardest: both ends, powers of two and their
-/// neighbours, the least ones, and partners of those, with which a quotient
-/// ends in one half, is the last to be held within 1 to 255 or the first that
-/// need not be.
+/// neighbours, pairs whose quotients must just be held within 1 to 255 or just
+/// not, pairs whose quotients end in one half, and [`BESIDE_LOWEST`].
 pub fn extreme_sizes() -> [u16; 200] {
     let mut wanted: Vec<i64> = vec![1, 32768];
     for power in (1..=15).map(|n| 1 << n) {
         wanted.extend([power, power - 1, power + 1]);
     }
-    // A size is held if it stands against more than 511 times itself.
+    // Quotients are held from 511 times the other size on.
     for less in [1, 2, 3, 4, 5, 7, 9, 15, 16, 17, 31, 32, 33, 62, 63, 64] {
         wanted.extend([less, 511 * less, 511 * less - 1, 511 * less + 1]);
     }
-    // Halves: both sizes are odd 512ths of their sum.
-    for (part, odd) in [(1, 3), (1, 127), (1, 253), (2, 5), (3, 101), (5, 255)] {
+    // Quotients end in one half where both sizes are odd 512ths of the sum.
+    for (part, odd) in [
+        (1, 3),
+        (1, 127),
+        (1, 253),
+        (2, 5),
+        (3, 101),
+        (5, 255),
+        (7, 77),
+        (11, 199),
+        (31, 15),
+        (48, 9),
+        (63, 19),
+        (64, 3),
+        (65, 9),
+        (80, 111),
+        (97, 255),
+        (100, 201),
+        (126, 253),
+        (127, 255),
+    ] {
         wanted.extend([part * odd, part * (512 - odd)]);
     }
-    for part in [97, 126, 127] {
-        wanted.extend([part * 255, part * 256, part * 257]);
-    }
+    wanted.extend(BESIDE_LOWEST);
     // Any others, of all orders of magnitude.
     let mut random = Random::new(200);
     wanted.extend((0..1000).map(|_| any_scale(&mut random)));

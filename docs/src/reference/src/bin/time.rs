@@ -1,24 +1,33 @@
-//! Times the fast filling on the shapes of [`reference::shapes`]. To be built
-//! with `--release`. An argument sets the count of runs per shape.
+//! Times the fast filling and the fast mending on the shapes of
+//! [`reference::shapes`]. To be built with `--release`. An argument sets the
+//! count of runs per shape.
 
 use reference::block::Block;
 use reference::fill::{fill, Filled};
+use reference::mend::mend;
 use reference::shapes;
 use std::time::Instant;
 
 fn main() {
     let runs = std::env::args().nth(1).and_then(|n| n.parse().ok());
     let runs: usize = runs.unwrap_or(21).max(1);
-    for (name, block) in [
-        ("sphere", shapes::sphere()),
-        ("air", shapes::air()),
-        ("ribs", shapes::ribs()),
-    ] {
-        report(name, &block, 0, runs);
+    let [sphere, air, ribs] = [shapes::sphere(), shapes::air(), shapes::ribs()];
+    for (name, block) in [("sphere", &sphere), ("air", &air), ("ribs", &ribs)] {
+        report(name, block, 0, runs);
     }
-    let sphere = shapes::sphere();
     let band = shapes::tenth_band(&sphere);
     report(&format!("sphere, band {band}"), &sphere, band, runs);
+    for (name, block) in [
+        (
+            "sphere with an empty table",
+            &shapes::emptied(sphere.clone()),
+        ),
+        ("sphere with a good table", &sphere),
+        ("air", &air),
+        ("ribs with an empty table", &shapes::emptied(ribs.clone())),
+    ] {
+        report_mending(name, block, runs);
+    }
 }
 
 /// Prints the best and the middle time of some runs over warm tables.
@@ -33,14 +42,40 @@ fn report(name: &str, block: &Block, band: u32, runs: usize) {
     };
     let (_, needed) = run(&mut state, &mut []);
     let mut rows = vec![1; 4 * needed.rows as usize];
-    let mut times: Vec<f64> = (0..runs).map(|_| run(&mut state, &mut rows).0).collect();
-    times.sort_by(f64::total_cmp);
-    let (best, middle) = (times[0], times[runs / 2]);
+    let times = (0..runs).map(|_| run(&mut state, &mut rows).0);
+    let times = best_and_middle(times.collect());
     let (_, filled) = run(&mut state, &mut rows);
     assert_eq!(filled.number, 0);
     println!("{name}: {} rows, {} moved", filled.rows, filled.moved);
-    for (word, time) in [("best", best), ("middle", middle)] {
+    for (word, time) in times {
         let rate = filled.rows as f64 / time;
         println!("  {word} {time:.2} ms, {rate:.0} rows per ms");
     }
+}
+
+/// The same for mending; the table is made anew for each run, beside its time.
+fn report_mending(name: &str, block: &Block, runs: usize) {
+    let [nx, ny, nz] = block.sizes;
+    let mut cuts = block.cuts.clone();
+    let mut run = || {
+        cuts.copy_from_slice(&block.cuts);
+        let begin = Instant::now();
+        let mended = mend(nx, ny, nz, &block.samples, &mut cuts);
+        (begin.elapsed().as_secs_f64() * 1e3, mended)
+    };
+    let times = best_and_middle((0..runs).map(|_| run().0).collect());
+    let (_, mended) = run();
+    assert_eq!(mended.number, 0);
+    println!(
+        "mending, {name}: {} filled in, {} cleared",
+        mended.filled, mended.cleared
+    );
+    for (word, time) in times {
+        println!("  {word} {time:.3} ms");
+    }
+}
+
+fn best_and_middle(mut times: Vec<f64>) -> [(&'static str, f64); 2] {
+    times.sort_by(f64::total_cmp);
+    [("best", times[0]), ("middle", times[times.len() / 2])]
 }
