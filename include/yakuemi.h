@@ -167,7 +167,7 @@ struct yakuemi_filled {
  *   10         place 0                     T and M as with a longer table         state is written whole, rows stays as it was
  *
  * 5, 6 and 7 read the samples as they are, whatever the band: a sample above zero on the rim is refused even if it is in the band, and
- * so is a zero cut byte between samples of opposite signs.
+ * so is a zero cut byte between samples of opposite signs. What 6 and 7 refuse yakuemi_mend puts right.
  *
  * To learn T, call it with a row table of length 0: the answer is 10 and says T (or 0, if T is 0). Or lend 12 times
  * the lattice tetrahedra, which always suffices.

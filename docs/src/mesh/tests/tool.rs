@@ -2,7 +2,7 @@
 use mesh::{abaqus, block, gmsh, view, vtk, Mesh, CUBES};
 use reference::block::Block;
 use reference::blockfile::{fill_block, write};
-use reference::generate::{block as any_cuts, Cutting, MIXES};
+use reference::generate::{block, Cutting, MIXES};
 use reference::random::Random;
 use reference::shapes::{emptied, mount, tenth_band};
 use std::collections::BTreeSet;
@@ -30,9 +30,13 @@ fn meshes(folder: &Path) -> [Mesh; 3] {
     [vtk::read(&text("out.vtk")), gmsh::read(&text("out.msh")), abaqus::read(&text("out.inp"))].map(Option::unwrap)
 }
 
-/// The three files that the tool wrote as `out`, as they are.
-fn texts(folder: &Path) -> [Vec<u8>; 3] {
-    ["out.vtk", "out.msh", "out.inp"].map(|name| fs::read(folder.join(name)).unwrap())
+/// The three files that the tool wrote as `out`, byte for byte. They are taken away, so that those of the next run are its own.
+fn taken(folder: &Path) -> [Vec<u8>; 3] {
+    ["out.vtk", "out.msh", "out.inp"].map(|name| {
+        let text = fs::read(folder.join(name)).unwrap();
+        fs::remove_file(folder.join(name)).unwrap();
+        text
+    })
 }
 
 #[test]
@@ -127,24 +131,24 @@ fn mends_an_old_export() {
     let given = Block::given_case();
     fs::write(folder.join("given"), write(&given).unwrap()).unwrap();
     assert_eq!(run(&folder, &["given", "out"]).1, Some(0));
-    let good = texts(&folder);
-    let missing: Vec<(usize, u8)> = (0..given.cuts.len()).filter(|&offset| given.cuts[offset] != 0).map(|offset| (offset, 0)).collect();
-    let cases: [(&[(usize, u8)], &str, &str); 5] = [
-        (&[(91, 0)], "refused 6 91\n", "mended: 1 filled in, 0 cleared\n"),
-        (&[(0, 7)], "refused 7 0\n", "mended: 0 filled in, 1 cleared\n"),
-        (&[(182, 255)], "refused 7 182\n", "mended: 0 filled in, 1 cleared\n"),
-        (&[(91, 0), (94, 0), (182, 1), (216, 0), (244, 255)], "refused 6 91\n", "mended: 3 filled in, 2 cleared\n"),
-        (&missing, "refused 6 30\n", "mended: 14 filled in, 0 cleared\n"),
+    let good = taken(&folder);
+    let missing = (0..given.cuts.len()).filter(|&offset| given.cuts[offset] != 0).map(|offset| (offset, 0)).collect();
+    let cases = [
+        (vec![(91, 0)], "refused 6 91\n", "mended: 1 filled in, 0 cleared\n"),
+        (vec![(0, 7)], "refused 7 0\n", "mended: 0 filled in, 1 cleared\n"),
+        (vec![(182, 255)], "refused 7 182\n", "mended: 0 filled in, 1 cleared\n"),
+        (vec![(91, 0), (94, 0), (182, 1), (216, 0), (244, 255)], "refused 6 91\n", "mended: 3 filled in, 2 cleared\n"),
+        (missing, "refused 6 30\n", "mended: 14 filled in, 0 cleared\n"),
     ];
     for (changes, refused, mended) in cases {
         let mut old = given.clone();
-        changes.iter().for_each(|&(offset, byte)| old.cuts[offset] = byte);
+        changes.into_iter().for_each(|(offset, byte)| old.cuts[offset] = byte);
         let file = write(&old).unwrap();
         fs::write(folder.join("old"), &file).unwrap();
         assert_eq!(run(&folder, &["old", "out"]), (refused.to_string(), Some(1)));
-        ["out.vtk", "out.msh", "out.inp"].iter().for_each(|name| fs::remove_file(folder.join(name)).unwrap());
+        assert_eq!(fs::read_dir(&folder).unwrap().count(), 2);
         assert_eq!(run(&folder, &["--mend", "old", "out"]), (format!("{mended}15 nodes, 24 tetrahedra\n"), Some(0)));
-        assert!(texts(&folder) == good && fs::read(folder.join("old")).unwrap() == file, "{mended}");
+        assert!(taken(&folder) == good && fs::read(folder.join("old")).unwrap() == file, "{mended}");
     }
 }
 
@@ -169,12 +173,12 @@ fn mends_a_part() {
     let choices: [&[&[&str]]; 4] = [&[], &[unit], &[banded], &[unit, banded]];
     for options in choices {
         let (line, code) = run(&folder, &[&options.concat(), &["good", "out"][..]].concat());
-        let good = texts(&folder);
+        let good = taken(&folder);
         assert_eq!(code, Some(0));
         for at in 0..=options.len() {
             let arguments = [&options[..at].concat(), &["--mend"][..], &options[at..].concat(), &["old", "out"]].concat();
             assert_eq!(run(&folder, &arguments), (format!("{mended}{line}"), Some(0)), "{arguments:?}");
-            assert!(texts(&folder) == good, "{arguments:?}");
+            assert!(taken(&folder) == good, "{arguments:?}");
         }
     }
 }
@@ -186,15 +190,15 @@ fn leaves_good_files_alone() {
     let mut random = Random::new(96);
     let mut moved = Block::given_case();
     moved.cuts[91] = 193;
-    let blocks = MIXES.map(|mix| any_cuts(&mut random, [5, 4, 5], mix, Cutting::Wild)).into_iter().chain([moved, mount()]);
+    let blocks = MIXES.map(|mix| block(&mut random, [5, 4, 5], mix, Cutting::Wild)).into_iter().chain([moved, mount()]);
     let mut filled = 0;
     for block in blocks {
         fs::write(folder.join("file"), write(&block).unwrap()).unwrap();
         let (line, code) = run(&folder, &["file", "out"]);
-        let good = texts(&folder);
+        let good = taken(&folder);
         assert_eq!(code, Some(0));
         assert_eq!(run(&folder, &["--mend", "file", "out"]), (format!("mended: 0 filled in, 0 cleared\n{line}"), Some(0)));
-        assert!(texts(&folder) == good, "{line}");
+        assert!(taken(&folder) == good, "{line}");
         filled += usize::from(line != "0 nodes, 0 tetrahedra\n");
     }
     assert!(filled > 6, "{filled}");
