@@ -114,6 +114,35 @@ struct yakuemi_read yakuemi_read(const uint8_t *bytes, size_t bytes_len,
                                  int16_t *samples, size_t samples_len,
                                  uint8_t *cuts, size_t cuts_len);
 
+/* The answer of mending. */
+struct yakuemi_mended {
+    uint32_t number;
+    uint64_t filled;  /* the missing bytes that were filled in */
+    uint64_t cleared; /* the stray bytes that became 0 */
+};
+
+/*
+ * Mends the cut table of an old scanner export, which lacks bytes or carries some too many, so that filling refuses it with neither 6
+ * nor 7, at any band. It may still refuse the block with 5, or with 10.
+ *
+ *   missing    a byte that is zero where one end's sample is above zero and the other's below. It becomes 256 times the size of the
+ *              sample at the edge's start, divided by the sum of both sizes, rounded to a whole number, half up, and held within 1 to
+ *              255 (-32768 has size 32768)
+ *   stray      a byte that is not zero where the ends' samples are not so, or where no edge is. It becomes 0
+ *   good       every other byte. It stays
+ *
+ * A byte that is filled in is within half a step, a 256th of the edge, of the exact quotient, or under one step where it was held (this
+ * is proved). How near the skin it is nobody knows: it is a straight-line guess from two samples, so a scanner's own cut is better.
+ *
+ * Lengths: N samples and 7N cuts. The samples are read as they are: there is no band here, and the rim is not looked at.
+ *
+ * Answers 0 with both counts: so many bytes of the cut table were changed, and no other. A second call changes nothing and answers 0 with
+ * both 0. Or, with both counts 0 and nothing written, the first of these that applies: 1, 2, 3.
+ */
+struct yakuemi_mended yakuemi_mend(uint32_t nx, uint32_t ny, uint32_t nz,
+                                   const int16_t *samples, size_t samples_len,
+                                   uint8_t *cuts, size_t cuts_len);
+
 /* The answer of filling. */
 struct yakuemi_filled {
     uint32_t number;
@@ -138,7 +167,7 @@ struct yakuemi_filled {
  *   10         place 0                     T and M as with a longer table         state is written whole, rows stays as it was
  *
  * 5, 6 and 7 read the samples as they are, whatever the band: a sample above zero on the rim is refused even if it is in the band, and
- * so is a zero cut byte between samples of opposite signs.
+ * so is a zero cut byte between samples of opposite signs. What 6 and 7 refuse yakuemi_mend puts right.
  *
  * To learn T, call it with a row table of length 0: the answer is 10 and says T (or 0, if T is 0). Or lend 12 times
  * the lattice tetrahedra, which always suffices.

@@ -166,6 +166,27 @@ static void print_readings(void)
     print_filled("filled from it", fill(rows, 96));
 }
 
+static void print_mended(const char *what, size_t points)
+{
+    struct yakuemi_mended m = yakuemi_mend(SIZE, SIZE, SIZE, samples, points, cuts, sizeof cuts);
+    printf("%s: answer %u, filled in %lu, cleared %lu\n", what, (unsigned)m.number, (unsigned long)m.filled, (unsigned long)m.cleared);
+}
+
+/* The block as an old export: three bytes are missing, and byte 182 stands where no edge is. */
+static void print_mending(void)
+{
+    uint32_t rows[96];
+    given_case();
+    cuts[91] = cuts[94] = cuts[216] = 0;
+    cuts[182] = 7;
+    print_filled("an old export", fill(rows, 96));
+    print_mended("mended with 34 samples", POINTS - 1);
+    print_mended("mended", POINTS);
+    printf("byte 91 is %u, byte 182 is %u\n", (unsigned)cuts[91], (unsigned)cuts[182]);
+    print_mended("mended again", POINTS);
+    print_filled("filled", fill(rows, 96));
+}
+
 int main(void)
 {
     struct yakuemi_measures m = yakuemi_measures(SIZE, SIZE, SIZE);
@@ -180,5 +201,6 @@ int main(void)
     print_bands();
     print_refusals();
     print_readings();
+    print_mending();
     return EXIT_SUCCESS;
 }

@@ -3,6 +3,8 @@ use reference::block::Block;
 use reference::damage::Call;
 use reference::fill::Filled;
 use reference::generate::any_band;
+use reference::lattice::Lattice;
+use reference::mend::Mended;
 use reference::place::place;
 use reference::random::Random;
 
@@ -27,6 +29,22 @@ pub fn fill(
         moved: f.moved,
         place: f.place,
     }
+}
+
+/// The library's mending with the separate software's types.
+pub fn mend(nx: u32, ny: u32, nz: u32, samples: &[i16], cuts: &mut [u8]) -> Mended {
+    let m = yakuemi::raw::mend([nx, ny, nz], samples, cuts);
+    Mended {
+        number: m.number,
+        filled: m.filled,
+        cleared: m.cleared,
+    }
+}
+
+/// The two ends of the edge that a cut byte belongs to, if it exists.
+pub fn ends(lattice: &Lattice, offset: usize) -> Option<[usize; 2]> {
+    let start = offset / 7;
+    Some([start, lattice.end(start, offset % 7)?])
 }
 
 /// Band 0 for half of the blocks, any band for the others.
@@ -62,6 +80,17 @@ pub fn same_filling(call: &Call, seed: u64) -> Filled {
     assert!(ours.state == theirs.state, "state tables differ, seed {seed}");
     assert!(ours.rows == theirs.rows, "row tables differ, seed {seed}");
     ours.filled
+}
+
+/// Mends a block's cut table by both: answer and table are the same. Leaves the mended table in the block and gives the answer.
+pub fn same_mending(block: &mut Block) -> Mended {
+    let Block { sizes: [nx, ny, nz], ref samples, ref mut cuts } = *block;
+    let mut theirs = cuts.clone();
+    let ours = mend(nx, ny, nz, samples, cuts);
+    assert_eq!(ours, reference::mend::mend(nx, ny, nz, samples, &mut theirs), "{nx} by {ny} by {nz}");
+    let differs = cuts.iter().zip(&theirs).position(|(ours, theirs)| ours != theirs);
+    assert_eq!(differs, None, "the byte that differs, {nx} by {ny} by {nz}");
+    ours
 }
 
 /// An exact row table, a longer one, and one that is too short by one, for a call that has an exact one.

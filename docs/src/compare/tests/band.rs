@@ -1,6 +1,6 @@
 //! Filling with a band (request F-3): answer, state table and row table, bit for bit, on valid and damaged blocks and on whole parts. How
 //! many points are in the band though their samples are not zero is counted, and how many cuts beside them are not live.
-use compare::{same_filling, same_place, three_tables};
+use compare::{ends, same_filling, same_place, three_tables};
 use reference::block::Block;
 use reference::check::check_mesh;
 use reference::cut::{violation, End};
@@ -25,12 +25,6 @@ fn exact_call(block: Block, band: u32, random: &mut Random) -> (Call, Filled) {
 fn in_band(call: &Call, point: usize) -> bool {
     let sample = call.block.samples[point];
     sample != 0 && label(call.band, sample) == 0
-}
-
-/// The two ends of the edge that a cut byte belongs to, if it exists.
-fn ends(lattice: &Lattice, offset: usize) -> Option<[usize; 2]> {
-    let start = offset / 7;
-    Some([start, lattice.end(start, offset % 7)?])
 }
 
 /// How often a band made a difference.

@@ -1,7 +1,7 @@
-//! Reading and filling a block file through the library.
+//! Reading, mending and filling a block file through the library.
 
 use crate::{Mesh, Point};
-use yakuemi::Refusal;
+use yakuemi::{Mending, Refusal};
 
 /// A block that was read from a file.
 pub struct Block {
@@ -27,6 +27,11 @@ pub fn read(file: &[u8]) -> Result<Block, Refusal> {
     samples.truncate(points);
     cuts.truncate(7 * points);
     Ok(Block { sizes: reading.sizes, samples, cuts })
+}
+
+/// Mends the cut table of a block: fills in what is missing and clears what is stray.
+pub fn mend(block: &mut Block) -> Result<Mending, Refusal> {
+    yakuemi::mend(block.sizes, &block.samples, &mut block.cuts)
 }
 
 /// The state table and the rows of a filled block.
@@ -69,8 +74,12 @@ pub fn mesh(block: &Block, filled: &Filled, unit: f64) -> Result<Mesh, Refusal> 
     Ok(Mesh { nodes, elements })
 }
 
-/// The mesh of a block file with a noise band, at a unit.
+/// The mesh of a block with a noise band, at a unit.
+pub fn mesh_of(block: &Block, band: u32, unit: f64) -> Result<Mesh, Refusal> {
+    mesh(block, &fill(block, band)?, unit)
+}
+
+/// The same, of a block file.
 pub fn mesh_of_file(file: &[u8], band: u32, unit: f64) -> Result<Mesh, Refusal> {
-    let block = read(file)?;
-    mesh(&block, &fill(&block, band)?, unit)
+    mesh_of(&read(file)?, band, unit)
 }

@@ -2,7 +2,7 @@
 //!
 //! | Module | Meaning |
 //! |---|---|
-//! | [`block`] | reading and filling a block file through the library |
+//! | [`block`] | reading, mending and filling a block file through the library |
 //! | [`vtk`], [`gmsh`], [`abaqus`] | the mesh as text, and read back from it |
 //! | [`view`], [`picture`], [`png`] | the mesh as a picture, cut open |
 //!

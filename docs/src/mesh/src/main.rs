@@ -5,6 +5,7 @@ use std::error::Error;
 use std::fs;
 use std::num::IntErrorKind;
 use std::process::ExitCode;
+use yakuemi::Mending;
 
 const USAGE: &str = "\
 usage: mesh FILE OUT           a block file's mesh in cubes, as OUT.vtk, OUT.msh (Gmsh 2.2) and OUT.inp (C3D4)
@@ -12,6 +13,8 @@ usage: mesh FILE OUT           a block file's mesh in cubes, as OUT.vtk, OUT.msh
        mesh --picture FILE PNG a picture of a block file's mesh, cut open
        mesh --part FILE        writes the block file of a part to try: an engine mount
 With --band N before FILE, samples of size N or less count as zero: N is the scanner's flicker, 0 to 32767.
+With --mend before FILE, the cut table of an old export is mended before the block is filled: a line more says how many
+bytes were missing and are filled in, and how many were stray and are cleared. FILE stays as it is.
 A block, a band or a unit that the library refuses is answered with `refused`, number and place, and exit code 1.
 ";
 
@@ -40,6 +43,7 @@ type Done = Result<String, Box<dyn Error>>;
 /// What the options say.
 #[derive(Clone, Copy, Default, PartialEq)]
 struct Options {
+    mend: bool,
     band: Option<u32>,
     unit: Option<f64>,
     picture: bool,
@@ -47,15 +51,16 @@ struct Options {
 
 /// Does what the arguments say, after these options; none if they say nothing that the usage has. Options come in any order, each once.
 fn carry_out(arguments: &[&str], said: Options) -> Option<Done> {
-    let Options { band, unit, picture } = said;
+    let Options { mend, band, unit, picture } = said;
     match *arguments {
         ["--part", file] if said == Options::default() => Some(write_part(file)),
+        ["--mend", ref rest @ ..] if !mend => carry_out(rest, Options { mend: true, ..said }),
         ["--band", number, ref rest @ ..] if band.is_none() => carry_out(rest, Options { band: Some(band_of(number)?), ..said }),
         ["--unit", number, ref rest @ ..] if unit.is_none() => carry_out(rest, Options { unit: Some(number.parse().ok()?), ..said }),
         ["--picture", ref rest @ ..] if !picture => carry_out(rest, Options { picture: true, ..said }),
         [file, _] if file.starts_with('-') => None,
-        [file, png] if picture && unit.is_none() => Some(write_picture(file, png, band.unwrap_or(0))),
-        [file, out] if !picture => Some(write_mesh(file, out, band.unwrap_or(0), unit.unwrap_or(CUBES))),
+        [file, png] if picture && unit.is_none() => Some(write_picture(file, png, said)),
+        [file, out] if !picture => Some(write_mesh(file, out, said)),
         _ => None,
     }
 }
@@ -69,12 +74,18 @@ fn band_of(number: &str) -> Option<u32> {
     }
 }
 
-fn read_mesh(file: &str, band: u32, unit: f64) -> Result<Mesh, Box<dyn Error>> {
-    Ok(block::mesh_of_file(&fs::read(file)?, band, unit)?)
+/// What was mended is said at once, so that it is known also where the mended block is refused.
+fn read_mesh(file: &str, said: Options) -> Result<Mesh, Box<dyn Error>> {
+    let mut block = block::read(&fs::read(file)?)?;
+    if said.mend {
+        let Mending { filled, cleared } = block::mend(&mut block)?;
+        println!("mended: {filled} filled in, {cleared} cleared");
+    }
+    Ok(block::mesh_of(&block, said.band.unwrap_or(0), said.unit.unwrap_or(CUBES))?)
 }
 
-fn write_mesh(file: &str, out: &str, band: u32, unit: f64) -> Done {
-    let mesh = read_mesh(file, band, unit)?;
+fn write_mesh(file: &str, out: &str, said: Options) -> Done {
+    let mesh = read_mesh(file, said)?;
     fs::write(format!("{out}.vtk"), vtk::write(&mesh))?;
     fs::write(format!("{out}.msh"), gmsh::write(&mesh))?;
     fs::write(format!("{out}.inp"), abaqus::write(&mesh))?;
@@ -88,8 +99,8 @@ fn write_part(file: &str) -> Done {
     Ok(format!("{} bytes", bytes.len()))
 }
 
-fn write_picture(file: &str, png: &str, band: u32) -> Done {
-    let mesh = read_mesh(file, band, CUBES)?;
+fn write_picture(file: &str, png: &str, said: Options) -> Done {
+    let mesh = read_mesh(file, said)?;
     let faces = view::cut_open(&mesh, view::quarter_away(&mesh));
     fs::write(png, png::write(&picture::draw(&faces)))?;
     Ok(format!("{} faces", faces.len()))

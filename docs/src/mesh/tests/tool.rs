@@ -2,7 +2,9 @@
 use mesh::{abaqus, block, gmsh, view, vtk, Mesh, CUBES};
 use reference::block::Block;
 use reference::blockfile::{fill_block, write};
-use reference::shapes::{mount, tenth_band};
+use reference::generate::{block, Cutting, MIXES};
+use reference::random::Random;
+use reference::shapes::{emptied, mount, tenth_band};
 use std::collections::BTreeSet;
 use std::fs;
 use std::path::{Path, PathBuf};
@@ -26,6 +28,15 @@ fn run(folder: &Path, arguments: &[&str]) -> (String, Option<i32>) {
 fn meshes(folder: &Path) -> [Mesh; 3] {
     let text = |name: &str| fs::read_to_string(folder.join(name)).unwrap();
     [vtk::read(&text("out.vtk")), gmsh::read(&text("out.msh")), abaqus::read(&text("out.inp"))].map(Option::unwrap)
+}
+
+/// The three files that the tool wrote as `out`, byte for byte. They are taken away, so that those of the next run are its own.
+fn taken(folder: &Path) -> [Vec<u8>; 3] {
+    ["out.vtk", "out.msh", "out.inp"].map(|name| {
+        let text = fs::read(folder.join(name)).unwrap();
+        fs::remove_file(folder.join(name)).unwrap();
+        text
+    })
 }
 
 #[test]
@@ -110,6 +121,118 @@ fn fills_a_part_with_a_band() {
         let mesh = block::mesh_of_file(&file, band, unit).unwrap();
         assert!(meshes(&folder).iter().all(|read| *read == mesh), "{arguments:?}");
     }
+}
+
+/// The given case as an old export, with bytes missing or stray: refused as it is, mended its mesh is that of the given case, as the
+/// straight line from 5 to -5 passes zero halfway too. The file itself stays.
+#[test]
+fn mends_an_old_export() {
+    let folder = folder("old");
+    let given = Block::given_case();
+    fs::write(folder.join("given"), write(&given).unwrap()).unwrap();
+    assert_eq!(run(&folder, &["given", "out"]).1, Some(0));
+    let good = taken(&folder);
+    let missing = (0..given.cuts.len()).filter(|&offset| given.cuts[offset] != 0).map(|offset| (offset, 0)).collect();
+    let cases = [
+        (vec![(91, 0)], "refused 6 91\n", "mended: 1 filled in, 0 cleared\n"),
+        (vec![(0, 7)], "refused 7 0\n", "mended: 0 filled in, 1 cleared\n"),
+        (vec![(182, 255)], "refused 7 182\n", "mended: 0 filled in, 1 cleared\n"),
+        (vec![(91, 0), (94, 0), (182, 1), (216, 0), (244, 255)], "refused 6 91\n", "mended: 3 filled in, 2 cleared\n"),
+        (missing, "refused 6 30\n", "mended: 14 filled in, 0 cleared\n"),
+    ];
+    for (changes, refused, mended) in cases {
+        let mut old = given.clone();
+        changes.into_iter().for_each(|(offset, byte)| old.cuts[offset] = byte);
+        let file = write(&old).unwrap();
+        fs::write(folder.join("old"), &file).unwrap();
+        assert_eq!(run(&folder, &["old", "out"]), (refused.to_string(), Some(1)));
+        assert_eq!(fs::read_dir(&folder).unwrap().count(), 2);
+        assert_eq!(run(&folder, &["--mend", "old", "out"]), (format!("{mended}15 nodes, 24 tetrahedra\n"), Some(0)));
+        assert!(taken(&folder) == good && fs::read(folder.join("old")).unwrap() == file, "{mended}");
+    }
+}
+
+/// The mount as an old export, without its cut bytes and with strays, and the line that says what was mended.
+fn old_mount() -> (Block, String) {
+    let (good, mut old) = (mount(), emptied(mount()));
+    let strays = (0..good.cuts.len()).filter(|&offset| good.cuts[offset] == 0).step_by(1000);
+    let cleared = strays.map(|offset| old.cuts[offset] = 128).count();
+    let filled = good.cuts.iter().filter(|&&byte| byte != 0).count();
+    (old, format!("mended: {filled} filled in, {cleared} cleared\n"))
+}
+
+/// As the mount's own cuts are straight-line guesses, its files come out the same, whichever option comes first.
+#[test]
+fn mends_a_part() {
+    let folder = folder("old part");
+    let band = &tenth_band(&mount()).to_string()[..];
+    let (old, mended) = old_mount();
+    fs::write(folder.join("good"), write(&mount()).unwrap()).unwrap();
+    fs::write(folder.join("old"), write(&old).unwrap()).unwrap();
+    let (unit, banded): (&[&str], &[&str]) = (&["--unit", "0.1"], &["--band", band]);
+    let choices: [&[&[&str]]; 4] = [&[], &[unit], &[banded], &[unit, banded]];
+    for options in choices {
+        let (line, code) = run(&folder, &[&options.concat(), &["good", "out"][..]].concat());
+        let good = taken(&folder);
+        assert_eq!(code, Some(0));
+        for at in 0..=options.len() {
+            let arguments = [&options[..at].concat(), &["--mend"][..], &options[at..].concat(), &["old", "out"]].concat();
+            assert_eq!(run(&folder, &arguments), (format!("{mended}{line}"), Some(0)), "{arguments:?}");
+            assert!(taken(&folder) == good, "{arguments:?}");
+        }
+    }
+}
+
+/// Files that want no mending are filled as without it, with cuts that no straight line has.
+#[test]
+fn leaves_good_files_alone() {
+    let folder = folder("good");
+    let mut random = Random::new(96);
+    let mut moved = Block::given_case();
+    moved.cuts[91] = 193;
+    let blocks = MIXES.map(|mix| block(&mut random, [5, 4, 5], mix, Cutting::Wild)).into_iter().chain([moved, mount()]);
+    let mut filled = 0;
+    for block in blocks {
+        fs::write(folder.join("file"), write(&block).unwrap()).unwrap();
+        let (line, code) = run(&folder, &["file", "out"]);
+        let good = taken(&folder);
+        assert_eq!(code, Some(0));
+        assert_eq!(run(&folder, &["--mend", "file", "out"]), (format!("mended: 0 filled in, 0 cleared\n{line}"), Some(0)));
+        assert!(taken(&folder) == good, "{line}");
+        filled += usize::from(line != "0 nodes, 0 tetrahedra\n");
+    }
+    assert!(filled > 6, "{filled}");
+}
+
+/// Mending does not see to the rim, the band or the unit, and a file that cannot be read is not mended.
+#[test]
+fn says_why_a_mended_block_is_refused_and_writes_nothing() {
+    let folder = folder("mended refused");
+    let given = Block::given_case();
+    let mut gap = given.clone();
+    gap.cuts[91] = 0;
+    let mut rim = given.clone();
+    rim.samples[27] = 1;
+    let mut size = write(&given).unwrap();
+    size[1] = 65;
+    let mut short = write(&gap).unwrap();
+    short.pop();
+    let [gap, rim] = [gap, rim].map(|block| write(&block).unwrap());
+    let cases: [(&[u8], &[&str], &str); 6] = [
+        (&rim, &[], "mended: 10 filled in, 1 cleared\nrefused 5 27\n"),
+        (&rim, &["--band", "5"], "mended: 10 filled in, 1 cleared\nrefused 5 27\n"),
+        (&gap, &["--band", "32768"], "mended: 1 filled in, 0 cleared\nrefused 14 0\n"),
+        (&gap, &["--unit", "0"], "mended: 1 filled in, 0 cleared\nrefused 13 0\n"),
+        (&size, &[], "refused 1 0\n"),
+        (&short, &[], "refused 11 0\n"),
+    ];
+    for (file, options, lines) in cases {
+        fs::write(folder.join("file"), file).unwrap();
+        let arguments = [&["--mend"], options, &["file", "out"]].concat();
+        assert_eq!(run(&folder, &arguments), (lines.to_string(), Some(1)), "{arguments:?}");
+    }
+    assert_eq!(run(&folder, &["--mend", "no such file", "out"]).1, Some(2));
+    assert_eq!(fs::read_dir(&folder).unwrap().count(), 1);
 }
 
 #[test]
@@ -198,7 +321,7 @@ fn says_that_a_band_is_refused_and_writes_nothing() {
 fn says_how_it_is_used_and_writes_nothing() {
     let folder = folder("usage");
     fs::write(folder.join("file"), write(&Block::given_case()).unwrap()).unwrap();
-    let wrong: [&[&str]; 28] = [
+    let wrong: [&[&str]; 37] = [
         &[],
         &["file"],
         &["file", "out", "more"],
@@ -227,6 +350,15 @@ fn says_how_it_is_used_and_writes_nothing() {
         &["--picture", "--unit", "0.1", "file", "out"],
         &["--picture", "--band", "3", "file"],
         &["file", "out", "--band", "3"],
+        &["--mend"],
+        &["--mend", "file"],
+        &["--mend", "file", "out", "more"],
+        &["--mend", "-file", "out"],
+        &["--mend", "--mend", "file", "out"],
+        &["--mend", "--band", "3", "--mend", "file", "out"],
+        &["--mend", "--part", "out"],
+        &["--mend", "--picture", "--unit", "0.1", "file", "out"],
+        &["file", "out", "--mend"],
     ];
     for arguments in wrong {
         assert_eq!(run(&folder, arguments), (String::new(), Some(2)), "{arguments:?}");
@@ -257,4 +389,18 @@ fn draws_with_a_band() {
     assert_eq!(run(&folder, &arguments), (line, Some(0)));
     let kept = PathBuf::from(env!("CARGO_MANIFEST_DIR")).join("../../mesh.png");
     assert!(fs::read(folder.join("banded.png")).unwrap() != fs::read(kept).unwrap());
+}
+
+/// The mount as an old export has the README's picture too.
+#[test]
+fn draws_what_it_mended() {
+    let folder = folder("mended picture");
+    let (old, mended) = old_mount();
+    fs::write(folder.join("old"), write(&old).unwrap()).unwrap();
+    assert_eq!(run(&folder, &["--mend", "--picture", "old", "mesh.png"]), (format!("{mended}11586 faces\n"), Some(0)));
+    let kept = PathBuf::from(env!("CARGO_MANIFEST_DIR")).join("../../mesh.png");
+    assert!(fs::read(folder.join("mesh.png")).unwrap() == fs::read(kept).unwrap());
+    // by this band no rubber is left, whatever was mended
+    let arguments = ["--picture", "--band", "32767", "--mend", "old", "nothing.png"];
+    assert_eq!(run(&folder, &arguments), (format!("{mended}0 faces\n"), Some(0)));
 }

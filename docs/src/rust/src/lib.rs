@@ -3,7 +3,7 @@
 //! A point of rubber in the middle of 2 by 2 by 2 cubes, with the skin halfway along its fourteen edges:
 //!
 //! ```
-//! use yakuemi::{fill, measures, place, place_mm, Refusal};
+//! use yakuemi::{fill, measures, mend, place, place_mm, Mending, Refusal};
 //!
 //! let sizes = [2, 2, 2];
 //! let n = measures(sizes)?.points as usize;
@@ -38,6 +38,12 @@
 //! let refusal = fill(sizes, 0, &samples, &cuts, &mut state, &mut rows).unwrap_err();
 //! assert_eq!(refusal, Refusal::Gap(91));
 //! assert_eq!(refusal.to_string(), "refused 6 91");
+//!
+//! // an old export: that byte is missing, and one stands where no edge crosses the skin
+//! cuts[0] = 7;
+//! assert_eq!(mend(sizes, &samples, &mut cuts)?, Mending { filled: 1, cleared: 1 });
+//! assert_eq!((cuts[91], cuts[0]), (128, 0));
+//! fill(sizes, 0, &samples, &cuts, &mut state, &mut rows)?;
 //! # Ok::<(), Refusal>(())
 //! ```
 //!
@@ -64,6 +70,15 @@ pub mod raw {
         pub rows: u64,
         pub moved: u64,
         pub place: u64,
+    }
+
+    /// The answer of `yakuemi_mend`.
+    #[repr(C)]
+    #[derive(Clone, Copy, Debug, PartialEq, Eq)]
+    pub struct Mended {
+        pub number: u32,
+        pub filled: u64,
+        pub cleared: u64,
     }
 
     /// The answer of `yakuemi_place`.
@@ -105,7 +120,7 @@ pub mod raw {
     }
 
     mod c {
-        use super::{Filled, Measures, Placed, PlacedMm, ReadFile};
+        use super::{Filled, Measures, Mended, Placed, PlacedMm, ReadFile};
 
         extern "C" {
             pub fn yakuemi_measures(nx: u32, ny: u32, nz: u32) -> Measures;
@@ -124,6 +139,15 @@ pub mod raw {
                 rows: *mut u32,
                 rows_len: usize,
             ) -> Filled;
+            pub fn yakuemi_mend(
+                nx: u32,
+                ny: u32,
+                nz: u32,
+                samples: *const i16,
+                samples_len: usize,
+                cuts: *mut u8,
+                cuts_len: usize,
+            ) -> Mended;
             #[allow(clippy::too_many_arguments)]
             pub fn yakuemi_place(
                 nx: u32,
@@ -182,6 +206,12 @@ pub mod raw {
                 rows.len(),
             )
         }
+    }
+
+    /// Mending a cut table that the caller lends.
+    pub fn mend(sizes: [u32; 3], samples: &[i16], cuts: &mut [u8]) -> Mended {
+        let [nx, ny, nz] = sizes;
+        unsafe { c::yakuemi_mend(nx, ny, nz, samples.as_ptr(), samples.len(), cuts.as_mut_ptr(), cuts.len()) }
     }
 
     /// The place of an id.
@@ -304,6 +334,15 @@ pub struct Filling {
     pub moved: u64,
 }
 
+/// A mending: the bytes of the cut table that changed.
+#[derive(Clone, Copy, Debug, PartialEq, Eq)]
+pub struct Mending {
+    /// The missing bytes that were filled in.
+    pub filled: u64,
+    /// The stray bytes that became 0.
+    pub cleared: u64,
+}
+
 /// A block file that was read.
 #[derive(Clone, Copy, Debug, PartialEq, Eq)]
 pub struct BlockRead {
@@ -349,6 +388,23 @@ pub fn fill(
         7 => Err(Refusal::Stray(f.place)),
         10 => Err(Refusal::Table { rows: f.rows, moved: f.moved }),
         14 => Err(Refusal::Band),
+        n => Err(Refusal::Other(n)),
+    }
+}
+
+/// Mends the cut table of an old export, N samples and 7N cut bytes, so that [`fill`] refuses it with neither 6 nor 7.
+///
+/// A missing byte becomes 256 times the size of the sample at the edge's start, divided by the sum of both ends' sizes, rounded half up and
+/// held within 1 to 255: within half a step of the quotient, or under one where it was held, which is proved. That is a straight-line
+/// guess, and a scanner's own cut is better. A stray byte becomes 0, good bytes stay, and a refusal changes nothing. The samples are
+/// read as they are, without a band.
+pub fn mend(sizes: [u32; 3], samples: &[i16], cuts: &mut [u8]) -> Result<Mending, Refusal> {
+    let m = raw::mend(sizes, samples, cuts);
+    match m.number {
+        0 => Ok(Mending { filled: m.filled, cleared: m.cleared }),
+        1 => Err(Refusal::Size),
+        2 => Err(Refusal::Samples),
+        3 => Err(Refusal::Cuts),
         n => Err(Refusal::Other(n)),
     }
 }

@@ -1,11 +1,13 @@
-//! Times filling, and places in millimetres, beside the separate software: the same blocks, tables and process, turn and turn about.
-//! Tables are lent as the call before left them; the first call of each is not counted. Prints the best and the middle of the times.
-//! `sphere+` is the sphere with a band that takes in a tenth of its points; the others have band 0.
+//! Times filling, mending and places in millimetres beside the separate software: the same blocks, tables and process, turn and turn about.
+//! Tables are lent as the call before left them, to mending as the block has them; the first call of each is not counted. Prints the best
+//! and the middle of the times. `sphere+` is the sphere with a band that takes in a tenth of its points; the others have band 0. `sphere-`
+//! is the sphere with its cut table emptied.
 use reference::block::Block;
 use reference::blockfile::fill_block;
 use reference::damage::Filling;
+use reference::mend::Mending;
 use reference::metric::place_mm;
-use reference::shapes::{air, ribs, sphere, tenth_band};
+use reference::shapes::{air, emptied, ribs, sphere, tenth_band};
 use std::time::Instant;
 
 const TURNS: usize = 25;
@@ -23,6 +25,13 @@ fn times(mut all: Vec<f64>) -> Times {
     }
 }
 
+/// Takes turns that answer both times, the library's first, and does not count the first turn.
+fn turn_about(mut turn: impl FnMut() -> [f64; 2]) -> [Times; 2] {
+    turn();
+    let turns = [(); TURNS].map(|_| turn());
+    [0, 1].map(|which| times(turns.iter().map(|both| both[which]).collect()))
+}
+
 fn once(filling: Filling, block: &Block, band: u32, state: &mut [u8], rows: &mut [u32]) -> (f64, u64) {
     let [nx, ny, nz] = block.sizes;
     let began = Instant::now();
@@ -35,22 +44,42 @@ fn once(filling: Filling, block: &Block, band: u32, state: &mut [u8], rows: &mut
 fn compare_on(name: &str, block: &Block, band: u32) {
     let mut state = vec![0; block.samples.len()];
     let mut rows = vec![0; 8_000_000];
-    let (mut ours, mut theirs, mut count) = (Vec::new(), Vec::new(), 0);
-    for turn in 0..=TURNS {
+    let mut count = 0;
+    let [a, b] = turn_about(|| {
         let (a, n) = once(compare::fill, block, band, &mut state, &mut rows);
         let (b, _) = once(reference::fill::fill, block, band, &mut state, &mut rows);
         count = n;
-        if turn > 0 {
-            ours.push(a);
-            theirs.push(b);
-        }
-    }
-    let (a, b) = (times(ours), times(theirs));
+        [a, b]
+    });
     let rate = |t: f64| count as f64 / t;
     let said = if band > 0 { format!(" | band {band}") } else { String::new() };
     println!(
         "{name:7} {count:9} rows | library {:7.2} ms best, {:7.2} middle, {:9.0} rows/ms | separate {:7.2} ms best, {:7.2} middle, {:9.0} rows/ms | ratio {:.2}{said}",
         a.best, a.middle, rate(a.best), b.best, b.middle, rate(b.best), a.best / b.best
+    );
+}
+
+/// Mending of a block's cut table. Its bytes are put back before each call, outside the time. Counted are those that change.
+fn compare_mending_of(name: &str, block: &Block) {
+    let (mut cuts, [nx, ny, nz]) = (block.cuts.clone(), block.sizes);
+    let mut timed = |mending: Mending| {
+        cuts.copy_from_slice(&block.cuts);
+        let began = Instant::now();
+        let mended = mending(nx, ny, nz, &block.samples, &mut cuts);
+        let took = began.elapsed().as_secs_f64() * 1000.0;
+        assert_eq!(mended.number, 0);
+        (took, mended)
+    };
+    let mut count = 0;
+    let [a, b] = turn_about(|| {
+        let ((a, ours), (b, theirs)) = (timed(compare::mend), timed(reference::mend::mend));
+        assert_eq!(ours, theirs);
+        count = ours.filled + ours.cleared;
+        [a, b]
+    });
+    println!(
+        "{name:7} {count:9} mend | library {:7.2} ms best, {:7.2} middle | separate {:7.2} ms best, {:7.2} middle | ratio {:.2}",
+        a.best, a.middle, b.best, b.middle, a.best / b.best
     );
 }
 
@@ -65,8 +94,7 @@ fn compare_places_of(name: &str, block: &Block) {
         let sum: f64 = ids.iter().map(|&id| place(id)).sum();
         (began.elapsed().as_secs_f64() * 1000.0, sum)
     };
-    let (mut ours, mut theirs) = (Vec::new(), Vec::new());
-    for turn in 0..=TURNS {
+    let [a, b] = turn_about(|| {
         let (a, our_sum) = timed(&|id| {
             let p = yakuemi::raw::place_mm(block.sizes, &block.cuts, &tables.state, id, unit).point;
             p.x + p.y + p.z
@@ -76,12 +104,8 @@ fn compare_places_of(name: &str, block: &Block) {
             p.x + p.y + p.z
         });
         assert_eq!(our_sum, their_sum);
-        if turn > 0 {
-            ours.push(a);
-            theirs.push(b);
-        }
-    }
-    let (a, b) = (times(ours), times(theirs));
+        [a, b]
+    });
     println!(
         "{name:7} {:9} ids  | library {:7.2} ms best, {:7.2} middle | separate {:7.2} ms best, {:7.2} middle | ratio {:.2}",
         ids.len(), a.best, a.middle, b.best, b.middle, a.best / b.best
@@ -94,5 +118,8 @@ fn main() {
     compare_on("air", &air(), 0);
     compare_on("ribs", &ribs(), 0);
     compare_on("sphere+", &sphere, tenth_band(&sphere));
+    compare_mending_of("sphere-", &emptied(sphere.clone()));
+    compare_mending_of("sphere", &sphere);
+    compare_mending_of("air", &air());
     compare_places_of("sphere", &sphere);
 }
