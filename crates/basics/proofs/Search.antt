@@ -1,7 +1,7 @@
 -- What a search below a bound finds, and what counting counts. Assumes nothing.
-use Prim.Native.Nat.{ℕ, zero, suc, _+_, _≤_, _<_}
+use Prim.Native.Nat.{ℕ, zero, suc, _+_, _-_, _≤_, _<_}
 use native.Mathlib.Omega.{arith}
-use mathlib.Core.Path.{_≡_, refl, ap, _∙_}
+use mathlib.Core.Path.{_≡_, refl, sym, ap, _∙_}
 use mathlib.Core.Logic.{inl, inr}
 use mathlib.Core.Bool.{Bool, true, false}
 use lib.Dec.{T}
@@ -83,3 +83,26 @@ module _ (f g : ℕ → Bool) where
   unfolding count
   count-same zero h = refl
   count-same (suc n) h = rw (h n (omega arith), count-same n (λ j l. h j (omega arith))) refl
+
+-- a count in two parts
+pub count-parts : (f : ℕ → Bool) (a n : ℕ) → count (λ j. f (a + j)) n + count f a ≡ count f (a + n)
+unfolding count
+count-parts f a zero = rw (add-zero a) (omega arith)
+  where
+    add-zero : (a : ℕ) → a + 0 ≡ a
+    add-zero a = omega arith
+count-parts f a (suc n) = omega (arith, count-parts f a n, ap (count f) (next a n))
+  where
+    next : (a n : ℕ) → a + suc n ≡ suc (a + n)
+    next a n = omega arith
+
+-- two tests that agree from a on count alike from there on
+pub count-rest : (f g : ℕ → Bool) (a e : ℕ) → a ≤ e → ((j : ℕ) → a ≤ j → j < e → f j ≡ g j)
+    → count f e + count g a ≡ count g e + count f a
+count-rest f g a e l h = rw (sym (whole a e l)) (omega (arith, count-parts f a (e - a), count-parts g a (e - a), same))
+  where
+    whole : (a e : ℕ) → a ≤ e → a + (e - a) ≡ e
+    whole a e l = omega arith
+
+    same : count (λ j. f (a + j)) (e - a) ≡ count (λ j. g (a + j)) (e - a)
+    same = count-same (λ j. f (a + j)) (λ j. g (a + j)) (e - a) (λ j u. h (a + j) (omega arith) (omega arith))

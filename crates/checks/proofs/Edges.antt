@@ -1,14 +1,16 @@
 -- Edges that cross, by the candidates for their far ends. Assumes nothing.
 --     inner-there                    from a point that is not on the rim all edges exist
 --     edge-crosses                   an edge that exists leads to its candidate
+--     crosses-to                     an edge that crosses leads to its candidate
 --     no-edge-crosses, calm-crosses  no edge, or a candidate that is not opposed
 --     asked-in, far-asked            a decoded point and the far ends of its edges have samples
 --     Marked, marked-more, marked    the seven answers, one after the other
 use Prim.Native.Nat.{ℕ, _+_, _≤_, _<_}
 use native.Mathlib.Omega.{arith}
-use mathlib.Core.Path.{_≡_, refl, sym, ap, _∙_}
+use mathlib.Core.Path.{_≡_, refl, sym, ap, subst, _∙_}
 use mathlib.Core.Bool.{Bool, true, false}
 use mathlib.Core.List.{List}
+use lib.Dec.{T}
 use lib.IntN.{ℤ}
 use lib.ListN.{length, getD, set, length-set}
 use lib.Seq.{getD-set-same, getD-set-other, ext-getD}
@@ -64,6 +66,14 @@ module _ (s : Sizes) (q : Site) (h : Sized s) (g : Sited s q) (d : ℕ) (i : d <
       unfolding crossesTo
       no-edge-crosses t =
           sym (ap (crossesTo s label (q .own)) (site-near s q h g (d + 1) ∙ near-no s (q .kind) (index q) (d + 1) t))
+
+      -- an edge that crosses leads to its candidate, which is a point
+      pub crosses-to : crosses s label (q .own) d ≡ true → (neighbour s (q .own) (d + 1) ≡ At far) × (far < points s)
+      crosses-to c = go there refl
+        where
+          go : (t : Bool) → there ≡ t → (neighbour s (q .own) (d + 1) ≡ At far) × (far < points s)
+          go true t = (leads t ∙ ap At (sym f), edge-in t)
+          go false t = absurd (subst T (sym (no-edge-crosses t ∙ c)) tt)
 
       -- a candidate that is not opposed settles it
       pub calm-crosses : opposed (label (q .own)) (label far) ≡ false → crosses s label (q .own) d ≡ false

@@ -6,7 +6,7 @@ use mathlib.Core.Logic.{_⊎_, inl, inr}
 use mathlib.Core.Bool.{Bool, true, false, not}
 use mathlib.Core.List.{List}
 use lib.ListN.{length, getD}
-use lib.Dec.{T, ltb, eqb, T-not}
+use lib.Dec.{T, ltb, leb, eqb, T-not}
 use borrow.Author.Tests.{ltb-false, ltb-true, le-ltb, eqb-true, eq-eqb, not-false}
 use Rattle.basics.specs.Choice.{if_then_else_}
 use Rattle.basics.proofs.Test.{eqb-of, lt-or}
@@ -17,7 +17,10 @@ use Rattle.moving.proofs.Band.{fits-banded, banded-fits}
 use Rattle.lattice.specs.declared.Sizes.{Sizes}
 use Rattle.moving.specs.declared.Label.{Label}
 use Rattle.moving.specs.Label.{signs, bandFits}
-use Rattle.moving.specs.Block.{Block, readingOf}
+use Rattle.moving.specs.Reading.{Reading}
+use Rattle.moving.specs.Moving.{stateOf}
+use Rattle.moving.specs.Block.{Block, readingOf, Tabled}
+use Rattle.filling.specs.Mesh.{rowsWith}
 use Rattle.filling.specs.Check.{rimFault, crosses, cutFault, firstRim, firstCut, Accepted}
 use Rattle.filling.specs.Fill.{Outcome, refused, written, fill}
 
@@ -106,6 +109,47 @@ module _ (band : ℕ) (b : Block) (state rows : List ℕ) where
           let fault = faultIn b (cutOf b) in
           let small = fault-le (b .sizes) (signIn b) (b .cuts) (cutOf b) in
           not-early fault (some fault (lowest-passes (faulty b) (7 * n) (ltb-true _ _ t))) (omega (arith, small)) f
+
+  -- what is written is answered with 0 or with 10
+  written-ends : (r : Reading) → (written state rows r .answer .number ≡ 0) ⊎ (written state rows r .answer .number ≡ 10)
+  unfolding written
+  written-ends r = go (leb (4 * length (rowsWith r (stateOf r))) (length rows))
+    where
+      go : (t : Bool) → (_≡_ {A = ℕ} (if t then 0 else 10) 0) ⊎ (_≡_ {A = ℕ} (if t then 0 else 10) 10)
+      go true = inl refl
+      go false = inr refl
+
+  -- where filling answers 6 or 7, the tables have the right lengths and some byte is at fault
+  pub faulted : (m : ℕ) → (m ≡ 6) ⊎ (m ≡ 7) → fill band b state rows .answer .number ≡ m
+      → Tabled b × ((o : ℕ) × (o < 7 * points (b .sizes)) × (faultIn b o ≡ m))
+  unfolding fill faulty
+  faulted m k e =
+      let s1 = passed (not (sizesFit (b .sizes))) 1 0 _ m (λ t. other 1 (omega arith)) e in
+      let s14 = passed (not (bandFits band)) 14 0 _ m (λ t f. elim k [ inl z ↦ omega arith | inr z ↦ omega arith ]) (s1 .2) in
+      let s2 = passed (not (eqb (length (b .samples)) n)) 2 0 _ m (λ t. other 2 (omega arith)) (s14 .2) in
+      let s3 = passed (not (eqb (length (b .cuts)) (7 * n))) 3 0 _ m (λ t. other 3 (omega arith)) (s2 .2) in
+      let s4 = passed (not (eqb (length state) n)) 4 0 _ m (λ t. other 4 (omega arith)) (s3 .2) in
+      let s5 = passed (ltb (rimOf b) n) 5 (rimOf b) _ m (λ t. other 5 (omega arith)) (s4 .2) in (
+        record {
+          sized = fits-sized (b .sizes) (not-false _ (s1 .0));
+          samples-long = eqb-true _ _ (not-false _ (s2 .0));
+          cuts-long = eqb-true _ _ (not-false _ (s3 .0));
+        },
+        cut (ltb (cutOf b) (7 * n)) refl (s5 .2),
+      )
+    where
+      other : (n : ℕ) → n < 6 → n ≡ m → ⊥
+      other n u f = elim k [ inl z ↦ omega arith | inr z ↦ omega arith ]
+
+      ends : (number : ℕ) → (number ≡ 0) ⊎ (number ≡ 10) → number ≡ m → ⊥
+      ends number (inl z) f = elim k [ inl y ↦ omega arith | inr y ↦ omega arith ]
+      ends number (inr z) f = elim k [ inl y ↦ omega arith | inr y ↦ omega arith ]
+
+      cut : (t : Bool) → ltb (cutOf b) (7 * n) ≡ t
+          → (if t then refused state rows (faultIn b (cutOf b)) (cutOf b) else written state rows (readingOf band b)) .answer .number ≡ m
+          → (o : ℕ) × (o < 7 * n) × (faultIn b o ≡ m)
+      cut true t f = (cutOf b, ltb-true _ _ t, f)
+      cut false t f = absurd (ends (written state rows (readingOf band b) .answer .number) (written-ends (readingOf band b)) f)
 
   -- and the other way round: a block that passes is filled
   pub accepted-fills : Accepted band b → length state ≡ points (b .sizes) → fill band b state rows ≡ written state rows (readingOf band b)

@@ -2,6 +2,7 @@
 // by a number of documents 01 and 02.
 mod fill;
 mod measures;
+mod mend;
 mod place;
 mod place_mm;
 mod read;
@@ -10,6 +11,7 @@ mod steps;
 pub use fill::yakuemi_fill;
 pub use measures::Measures;
 pub use measures::yakuemi_measures;
+pub use mend::yakuemi_mend;
 pub use place::yakuemi_place;
 pub use place_mm::yakuemi_place_mm;
 pub use read::ReadFile;

@@ -1,0 +1,70 @@
+-- What mending makes of pairs of samples, and of blocks of one cube. Assumes nothing. (Files are checked in the order of their names: this
+-- one first, so that a wrong rule is refused by what it gives.)
+use Prim.Native.Nat.{ℕ}
+use mathlib.Core.Path.{_≡_, refl}
+use mathlib.Core.List.{List, [], _∷_, map}
+use lib.IntN.{ℤ, pos, negℤ}
+use lib.ListN.{replicate, set}
+use Rattle.basics.specs.cases.Table.{Entry, _:=_, tableOf}
+use Rattle.lattice.specs.declared.Sizes.{Sizes}
+use Rattle.moving.specs.Block.{Block, blockOf}
+use Rattle.filling.proofs.Opened.{definitions}
+use Rattle.mending.specs.Mend.{Outcome, sizeOf, rounded, held, byteTo, mendedByte, faults, refused, mend}
+
+-- the samples of an edge's start and of its far end
+infix 70 _to_
+pub data Ends : Type 0 where
+  _to_ : ℤ → ℤ → Ends
+
+abbrev byteOf : Ends → ℕ
+byteOf (a to b) = held (rounded (sizeOf a) (sizeOf b))
+
+-- equal sizes; halves, which go up; just below a half and held to 1; a half and more, held to 255; -32768, whose size is not 32,767
+unfoldable pub pairs : List Ends
+pairs =
+    pos 5 to negℤ (pos 5)
+    ∷ negℤ (pos 3) to pos 5
+    ∷ pos 1 to negℤ (pos 511)
+    ∷ pos 3 to negℤ (pos 509)
+    ∷ pos 509 to negℤ (pos 3)
+    ∷ pos 1 to negℤ (pos 512)
+    ∷ pos 511 to negℤ (pos 1)
+    ∷ pos 32767 to negℤ (pos 1)
+    ∷ pos 3312 to negℤ (pos 32768)
+    ∷ negℤ (pos 32768) to pos 3312
+    ∷ []
+
+pub bytes-so : map byteOf pairs ≡ 128 ∷ 96 ∷ 1 ∷ 2 ∷ 255 ∷ 1 ∷ 255 ∷ 255 ∷ 23 ∷ 233 ∷ []
+unfolding held rounded sizeOf pairs
+bytes-so = refl
+
+abbrev cubes : ℕ → Sizes
+cubes n = record { nx = n; ny = n; nz = n }
+
+-- one cube: its centre, number 8, has a sample of 3, its corners one of -5. Its eight edges have these bytes, and here one has its cut
+abbrev cube : List Entry → Block
+cube cuts = blockOf (cubes 1) (set (replicate 9 (negℤ (pos 5))) 8 (pos 3)) (tableOf 63 cuts)
+
+unfoldable pub calls : List Block
+calls =
+    blockOf (cubes 0) [] (replicate 3 9)
+    ∷ blockOf (cubes 1) (replicate 8 (pos 5)) (replicate 62 9)
+    ∷ blockOf (cubes 1) (replicate 9 (pos 5)) (replicate 62 9)
+    -- a cut, and stray bytes: where no edge is, where one is that does not cross, and in the last place that is one
+    ∷ cube (59 := 77 ∷ 0 := 9 ∷ 7 := 9 ∷ 58 := 9 ∷ [])
+    ∷ []
+
+unfoldable pub outcomes : List Outcome
+outcomes =
+    refused (replicate 3 9) 1
+    ∷ refused (replicate 62 9) 2
+    ∷ refused (replicate 62 9) 3
+    ∷ record {
+      answer = record { number = 0; filled = 7; cleared = 3 };
+      cuts = tableOf 63 (3 := 160 ∷ 11 := 160 ∷ 19 := 160 ∷ 27 := 160 ∷ 59 := 77 ∷ 60 := 96 ∷ 61 := 96 ∷ 62 := 96 ∷ []);
+    }
+    ∷ []
+
+pub mends-so : map mend calls ≡ outcomes
+unfolding definitions sizeOf rounded held byteTo mendedByte faults mend calls outcomes
+mends-so = refl

@@ -1,0 +1,5 @@
+pub mod Sizes
+pub mod Part
+pub mod Mends
+pub mod Site
+pub mod Whole

@@ -1,0 +1,115 @@
+-- A point's seven bytes, by its edges, and their place in the table. Assumes nothing.
+--     point-fine, line-fine   a point, or a line, without a fault
+--     site-ends, site-mended  what mending seven bytes asks, and what it gives
+--     seven-mended            the same in the table
+--     still-tabled            a table stays as long as it is
+use Prim.Native.Nat.{ℕ, _+_, _*_, _-_, _/_, _%_, _≤_, _<_}
+use native.Mathlib.Omega.{arith}
+use mathlib.Core.Path.{_≡_, refl, sym, ap, subst, _∙_}
+use mathlib.Core.Bool.{Bool, true, false}
+use mathlib.Core.List.{List}
+use lib.IntN.{ℤ}
+use lib.ListN.{length, getD, take, drop}
+use Rattle.lattice.specs.declared.Sizes.{Sizes}
+use Rattle.lattice.specs.declared.Site.{Site}
+use Rattle.lattice.specs.declared.Near.the-variants.{At}
+use Rattle.lattice.specs.Axis.{along-x}
+use Rattle.lattice.specs.Counts.{grid, points}
+use Rattle.lattice.specs.Direction.{asStart}
+use Rattle.lattice.specs.Edge.{neighbour}
+use Rattle.moving.specs.declared.Label.{Label}
+use Rattle.moving.specs.Label.{signs, opposed}
+use Rattle.moving.specs.Block.{blockOf, Tabled}
+use Rattle.filling.specs.Check.{crosses, crossesTo, cutFault}
+use Rattle.ground.specs.inner.Strides.{endsAt}
+use Rattle.mending.specs.Mend.{sizeAt, byteTo}
+use Rattle.mending.proofs.Signs.{opposed-some}
+use Rattle.checks.specs.inner.Search.{Throughout}
+use Rattle.checks.specs.inner.Faults.{Asked, PointFine, LineFine, numberAt, sevenFault, crossingsAt}
+use Rattle.checks.proofs.Faults.{crossing-at}
+use Rattle.checks.proofs.Edges.{asked-in, crosses-to}
+use Rattle.patch.specs.declared.Counts.{Counts}
+use Rattle.patch.specs.inner.Mends.{Mends, Ends, faultBy, sevenRule, pointRule, tableRule}
+use Rattle.patch.proofs.Mends.{same-rule, shifted, lent-part}
+use Rattle.patch.proofs.Part.{back}
+
+pub point-fine : (s : Sizes) (samples : List ℤ) (q : Site) (bytes : List ℕ) → PointFine s (signs samples) bytes q
+    → Throughout (faultBy (pointRule s (signs samples) samples (q .own)) bytes) 0 0 7
+unfolding sevenFault
+point-fine s samples q bytes t =
+    record {
+      is = λ d l u. ap (λ (m : Bool). numberAt m (getD bytes d 0)) (sym (crossing-at s (signs samples) (q .own) d u)) ∙ t .is d l u;
+    }
+
+module _ {s : Sizes} {samples : List ℤ} {q : Site} (a : Asked s samples q) {must : List Bool} {far : List ℕ}
+    (m : must ≡ crossingsAt s (signs samples) (q .own)) (f : far ≡ endsAt s q) where
+  abbrev raw : ℕ → Label
+  raw = signs samples
+
+  -- the test's answer, and where an edge that crosses leads
+  must-is : (d : ℕ) → d < 7 → getD must d false ≡ crosses s raw (q .own) d
+  must-is d u = ap (λ (l : List Bool). getD l d false) m ∙ crossing-at s raw (q .own) d u
+
+  leads-to : (d : ℕ) → d < 7 → crosses s raw (q .own) d ≡ true
+      → (neighbour s (q .own) (asStart d) ≡ At (getD far d 0)) × (getD far d 0 < points s)
+  leads-to d u c = crosses-to s q (a .sized) (a .sited) d u (ap (λ (l : List ℕ). getD l d 0) f) raw c
+
+  start-some : (d : ℕ) → d < 7 → crosses s raw (q .own) d ≡ true → 0 < sizeAt samples (q .own)
+  unfolding crossesTo signs
+  start-some d u c =
+      let w : opposed (raw (q .own)) (raw (getD far d 0)) ≡ true = sym (ap (crossesTo s raw (q .own)) (leads-to d u c .0)) ∙ c in
+      opposed-some _ _ w .0
+
+  pub site-ends : Ends samples must (q .own) far
+  site-ends =
+      record {
+        small = asked-in a .1;
+        start = asked-in a .0;
+        end = λ d u t. omega (arith, a .long, leads-to d u (sym (must-is d u) ∙ t) .1);
+        some = λ d u t. start-some d u (sym (must-is d u) ∙ t);
+      }
+
+  pub site-mended : {old new : List ℕ} {c : Counts} → Mends (sevenRule samples must (q .own) far) 0 7 old new c
+      → Mends (pointRule s raw samples (q .own)) 0 7 old new c
+  site-mended w =
+      same-rule (λ d l u. must-is d u) (λ d l u t. ap (byteTo samples (q .own)) (sym (leads-to d u t .0))) (omega arith) w
+
+-- the seven bytes of a point, lent and come back
+module _ (s : Sizes) (label : ℕ → Label) (samples : List ℤ) (xs : List ℕ) where
+  in-table : (p : ℕ) {ys : List ℕ} {c : Counts} → 7 * p + 7 ≤ length xs → Mends (pointRule s label samples p) 0 7 (take 7 (drop (7 * p) xs)) ys c
+      → Mends (tableRule s label samples) (7 * p) (7 * p + 7) xs (back (7 * p) 7 xs ys) c
+  in-table p h w =
+      lent-part (tableRule s label samples) (7 * p) 7 xs h
+      (same-rule
+      (λ d l u. sym (ap (λ (k : ℕ). crosses s label k ((7 * p + d) % 7)) (start d u) ∙ ap (crosses s label p) (way d u)))
+      (λ d l u t. sym (ap (λ (k : ℕ). byteTo samples k (neighbour s k (asStart ((7 * p + d) % 7)))) (start d u)
+          ∙ ap (λ (k : ℕ). byteTo samples p (neighbour s p (asStart k))) (way d u)))
+      (omega arith) w)
+    where
+      start : (d : ℕ) → d < 7 → (7 * p + d) / 7 ≡ p
+      start d u = omega arith
+
+      way : (d : ℕ) → d < 7 → (7 * p + d) % 7 ≡ d
+      way d u = omega arith
+
+  -- as the code has their number
+  pub seven-mended : {own p : ℕ} {ys : List ℕ} {c : Counts} → own ≡ p → 7 * p + 7 ≤ length xs
+      → Mends (pointRule s label samples own) 0 7 (take (7 * p + 7 - 7 * p) (drop (7 * p) xs)) ys c
+      → Mends (tableRule s label samples) (7 * p) (7 * p + 7) xs (back (7 * p) (7 * p + 7 - 7 * p) xs ys) c
+  seven-mended {own} {p} {ys} {c} e h w =
+      let n : 7 * p + 7 - 7 * p ≡ 7 = omega arith in
+      subst (λ (k : ℕ). Mends (tableRule s label samples) (7 * p) (7 * p + 7) xs (back (7 * p) k xs ys) c) (sym n)
+      (in-table p h
+      (subst (λ (k : ℕ). Mends (pointRule s label samples p) 0 7 (take k (drop (7 * p) xs)) ys c) n
+      (subst (λ (k : ℕ). Mends (pointRule s label samples k) 0 7 (take (7 * p + 7 - 7 * p) (drop (7 * p) xs)) ys c) e w)))
+
+-- a line without a fault
+pub line-fine : (s : Sizes) (label : ℕ → Label) (samples : List ℤ) (cuts : List ℕ) (q : Site) → LineFine s label cuts q
+    → Throughout (faultBy (tableRule s label samples) cuts) 0 (7 * q .own) (7 * (q .own + grid s (q .kind) along-x))
+unfolding cutFault numberAt
+line-fine s label samples cuts q t = record { is = λ o l u. t .is o l u }
+
+-- a table that is as long as before is still long enough
+pub still-tabled : {s : Sizes} {samples : List ℤ} {old new : List ℕ} → Tabled (blockOf s samples old) → length new ≡ length old
+    → Tabled (blockOf s samples new)
+still-tabled t e = record { sized = t .sized; samples-long = t .samples-long; cuts-long = e ∙ t .cuts-long }
