@@ -1,10 +1,12 @@
--- The papers' cases come out: what `fill` and `locate` say of each is what documents 01 and 02 say. Assumes nothing.
+-- The papers' cases come out: what `fill`, `locate` and `mend` say of each is what documents 01 and 02 say. Assumes nothing.
 use mathlib.Core.Path.{_≡_, refl}
 use mathlib.Core.List.{map}
+use Rattle.mending.specs.Mend.{sizeOf, rounded, held, byteTo, mendedByte, faults, mend}
 use Rattle.casebook.specs.cases.Given.{laid, laidRuns, givenSamples, givenCuts, allEntered, changed}
 use Rattle.casebook.specs.cases.Cases.{cases, strange}
 use Rattle.casebook.specs.cases.Nearest.{nearest}
 use Rattle.casebook.specs.cases.Bands.{rodSamples, rod, bands}
+use Rattle.casebook.specs.cases.Mends.{sampled, mendings}
 use Rattle.casebook.specs.cases.Result.{computed, expected, found, resultOf}
 use Rattle.casebook.proofs.Opened.{definitions}
 
@@ -25,3 +27,10 @@ nearest-come-out = refl
 pub bands-come-out : map computed bands ≡ map expected bands
 unfolding definitions laid laidRuns givenSamples givenCuts allEntered changed rodSamples rod bands computed expected found resultOf
 bands-come-out = refl
+
+-- document 02, F-4
+pub mends-come-out : map (λ m. mend (m .block)) mendings ≡ map (λ m. m .outcome) mendings
+unfolding
+    definitions sizeOf rounded held byteTo mendedByte faults mend
+    laid laidRuns givenSamples givenCuts allEntered changed sampled mendings
+mends-come-out = refl

@@ -3,6 +3,7 @@ pub mod Given
 pub mod Cases
 pub mod Nearest
 pub mod Bands
+pub mod Mends
 pub mod Result
 pub mod Metric
 pub mod Millimetres

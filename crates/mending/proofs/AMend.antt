@@ -9,7 +9,7 @@ use Rattle.basics.specs.cases.Table.{Entry, _:=_, tableOf}
 use Rattle.lattice.specs.declared.Sizes.{Sizes}
 use Rattle.moving.specs.Block.{Block, blockOf}
 use Rattle.filling.proofs.Opened.{definitions}
-use Rattle.mending.specs.Mend.{Outcome, sizeOf, rounded, held, byteTo, mendedByte, faults, refused, mend}
+use Rattle.mending.specs.Mend.{Outcome, sizeOf, rounded, held, byteTo, mendedByte, faults, mend}
 
 -- the samples of an edge's start and of its far end
 infix 70 _to_
@@ -41,7 +41,8 @@ bytes-so = refl
 abbrev cubes : ℕ → Sizes
 cubes n = record { nx = n; ny = n; nz = n }
 
--- one cube: its centre, number 8, has a sample of 3, its corners one of -5. Its eight edges have these bytes, and here one has its cut
+-- one cube: its centre, number 8, has a sample of 3, its corners have -5. The eight edges that cross have the bytes 3, 11, 19, 27 (from
+-- corners) and 59 to 62 (to corners)
 abbrev cube : List Entry → Block
 cube cuts = blockOf (cubes 1) (set (replicate 9 (negℤ (pos 5))) 8 (pos 3)) (tableOf 63 cuts)
 
@@ -50,19 +51,19 @@ calls =
     blockOf (cubes 0) [] (replicate 3 9)
     ∷ blockOf (cubes 1) (replicate 8 (pos 5)) (replicate 62 9)
     ∷ blockOf (cubes 1) (replicate 9 (pos 5)) (replicate 62 9)
-    -- a cut, and stray bytes: where no edge is, where one is that does not cross, and in the last place that is one
+    -- a byte that is good, and stray ones: on an edge that does not cross, and twice where no edge is
     ∷ cube (59 := 77 ∷ 0 := 9 ∷ 7 := 9 ∷ 58 := 9 ∷ [])
     ∷ []
 
+abbrev outcome : ℕ → ℕ → ℕ → List ℕ → Outcome
+outcome n f c cuts = record { answer = record { number = n; filled = f; cleared = c }; cuts = cuts }
+
 unfoldable pub outcomes : List Outcome
 outcomes =
-    refused (replicate 3 9) 1
-    ∷ refused (replicate 62 9) 2
-    ∷ refused (replicate 62 9) 3
-    ∷ record {
-      answer = record { number = 0; filled = 7; cleared = 3 };
-      cuts = tableOf 63 (3 := 160 ∷ 11 := 160 ∷ 19 := 160 ∷ 27 := 160 ∷ 59 := 77 ∷ 60 := 96 ∷ 61 := 96 ∷ 62 := 96 ∷ []);
-    }
+    outcome 1 0 0 (replicate 3 9)
+    ∷ outcome 2 0 0 (replicate 62 9)
+    ∷ outcome 3 0 0 (replicate 62 9)
+    ∷ outcome 0 7 3 (tableOf 63 (3 := 160 ∷ 11 := 160 ∷ 19 := 160 ∷ 27 := 160 ∷ 59 := 77 ∷ 60 := 96 ∷ 61 := 96 ∷ 62 := 96 ∷ []))
     ∷ []
 
 pub mends-so : map mend calls ≡ outcomes

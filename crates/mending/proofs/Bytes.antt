@@ -3,7 +3,7 @@
 --     missing-of                        a missing byte is 0, and its edge exists and crosses
 --     byte-fine                         a mended byte is not at fault
 --     fine-stays                        a byte that is not at fault stays
-use Prim.Native.Nat.{ℕ, _/_, _%_, _<_}
+use Prim.Native.Nat.{ℕ, _/_, _%_}
 use native.Mathlib.Omega.{arith}
 use mathlib.Core.Path.{_≡_, refl, sym, ap, subst, _∙_}
 use mathlib.Core.Bool.{Bool, true, false}

@@ -2,7 +2,7 @@
 --     HalfStep, UnderStep     the distance is at most one half, or under one; both multiplied out
 --     Close, close            the first, or the second where the byte was held
 --     held-some, held-byte    a held number is 1 to 255
-use Prim.Native.Nat.{ℕ, _+_, _*_, _/_, _%_, _≤_, _<_}
+use Prim.Native.Nat.{ℕ, _+_, _*_, _/_, _≤_, _<_}
 use native.Mathlib.Omega.{arith}
 use native.Mathlib.Nat.{mul-le-mul-left, mod-lt, mod-add-div, mul-assoc}
 use mathlib.Core.Path.{_≡_, refl, sym, subst}

@@ -4,16 +4,16 @@
 --     joined                         a part, then the next
 --     same-rule                      two rules that agree in a part
 --     lent-part                      a part that was lent, in the whole table
-use Prim.Native.Nat.{ℕ, zero, suc, _+_, _-_, _≤_, _<_}
+use Prim.Native.Nat.{ℕ, suc, _+_, _-_, _≤_, _<_}
 use native.Mathlib.Omega.{arith}
 use mathlib.Core.Path.{_≡_, refl, sym, ap, subst, _∙_}
-use mathlib.Core.Logic.{_⊎_, inl, inr}
+use mathlib.Core.Logic.{inl, inr}
 use mathlib.Core.Bool.{Bool, true, false}
 use mathlib.Core.List.{List}
 use lib.Dec.{eqb}
 use lib.ListN.{length, getD, set, take, drop, length-set, length-drop}
 use lib.Seq.{getD-set-same, getD-set-other, length-take-le}
-use borrow.Author.Tests.{eq-eqb, ne-eqb, eqb-true, eqb-false}
+use borrow.Author.Tests.{eq-eqb, ne-eqb, eqb-true}
 use Rattle.basics.specs.Choice.{if_then_else_}
 use Rattle.basics.specs.Lists.{count}
 use Rattle.basics.proofs.Test.{lt-or}
@@ -137,9 +137,10 @@ module _ {r : Rule} where
     unfolding numberAt fixedBy
     missing m e g z = changed 6 (rw (m, eq-eqb _ _ e) g) (rw (m, eq-eqb _ _ e) refl) z
 
-    pub stray : {c : Counts} → r .must d ≡ false → (getD old d 0 ≡ 0 → ⊥) → c ≡ counts 0 1 → Mends r d (d + 1) old (set old d 0) c
+    pub stray : {v : ℕ} {c : Counts} → r .must d ≡ false → (getD old d 0 ≡ 0 → ⊥) → v ≡ 0 → c ≡ counts 0 1
+        → Mends r d (d + 1) old (set old d v) c
     unfolding numberAt fixedBy
-    stray m e z = changed 7 (rw m refl) (rw (m, ne-eqb _ _ e) refl) z
+    stray m e g z = changed 7 (rw m g) (rw (m, ne-eqb _ _ e) refl) z
 
     -- a good one stays
     good : {c : Counts} → faultBy r old d ≡ 0 → c ≡ counts 0 0 → Mends r d (d + 1) old old c
@@ -193,7 +194,7 @@ module _ (r : Rule) (a n : ℕ) (xs : List ℕ) where
   lent-faults : (k : ℕ) → faultsBefore (shifted r a) (take n (drop a xs)) k n + faultsBefore r xs k a ≡ faultsBefore r xs k (a + n)
   lent-faults k =
       let same = count-same (λ d. eqb (faultBy (shifted r a) (take n (drop a xs)) d) k) (λ d. eqb (faultBy r xs (a + d)) k) n
-          (λ d l. ap (λ (x : ℕ). eqb (numberAt (r .must (a + d)) x) k) (lent-at a n xs d l)) in
+      (λ d l. ap (λ (x : ℕ). eqb (numberAt (r .must (a + d)) x) k) (lent-at a n xs d l)) in
       omega (arith, same, count-parts (λ j. eqb (faultBy r xs j) k) a n)
 
   -- and came back

@@ -5,7 +5,7 @@
 --     still-tabled            a table stays as long as it is
 use Prim.Native.Nat.{ℕ, _+_, _*_, _-_, _/_, _%_, _≤_, _<_}
 use native.Mathlib.Omega.{arith}
-use mathlib.Core.Path.{_≡_, refl, sym, ap, subst, _∙_}
+use mathlib.Core.Path.{_≡_, sym, ap, subst, _∙_}
 use mathlib.Core.Bool.{Bool, true, false}
 use mathlib.Core.List.{List}
 use lib.IntN.{ℤ}
@@ -30,7 +30,7 @@ use Rattle.checks.proofs.Faults.{crossing-at}
 use Rattle.checks.proofs.Edges.{asked-in, crosses-to}
 use Rattle.patch.specs.declared.Counts.{Counts}
 use Rattle.patch.specs.inner.Mends.{Mends, Ends, faultBy, sevenRule, pointRule, tableRule}
-use Rattle.patch.proofs.Mends.{same-rule, shifted, lent-part}
+use Rattle.patch.proofs.Mends.{same-rule, lent-part}
 use Rattle.patch.proofs.Part.{back}
 
 pub point-fine : (s : Sizes) (samples : List ℤ) (q : Site) (bytes : List ℕ) → PointFine s (signs samples) bytes q
@@ -83,7 +83,7 @@ module _ (s : Sizes) (label : ℕ → Label) (samples : List ℤ) (xs : List ℕ
       (same-rule
       (λ d l u. sym (ap (λ (k : ℕ). crosses s label k ((7 * p + d) % 7)) (start d u) ∙ ap (crosses s label p) (way d u)))
       (λ d l u t. sym (ap (λ (k : ℕ). byteTo samples k (neighbour s k (asStart ((7 * p + d) % 7)))) (start d u)
-          ∙ ap (λ (k : ℕ). byteTo samples p (neighbour s p (asStart k))) (way d u)))
+      ∙ ap (λ (k : ℕ). byteTo samples p (neighbour s p (asStart k))) (way d u)))
       (omega arith) w)
     where
       start : (d : ℕ) → d < 7 → (7 * p + d) / 7 ≡ p

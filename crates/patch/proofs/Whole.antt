@@ -1,13 +1,13 @@
 -- The whole table, mended by its rule, is the one of the definition; and the refusals. Assumes nothing.
 --     refuses-1, refuses-2, refuses-3     each refusal
 --     whole                               a table that passes
-use Prim.Native.Nat.{ℕ, _*_, _/_, _%_, _<_}
+use Prim.Native.Nat.{ℕ, _*_}
 use native.Mathlib.Omega.{arith}
 use mathlib.Core.Path.{_≡_, refl, sym, ap, _∙_}
 use mathlib.Core.Bool.{false}
 use mathlib.Core.List.{List}
 use lib.IntN.{ℤ}
-use lib.ListN.{length, getD}
+use lib.ListN.{length}
 use borrow.Author.Tests.{eq-eqb, ne-eqb}
 use Rattle.basics.specs.Lists.{count}
 use Rattle.basics.proofs.Mapped.{read-all}
@@ -74,5 +74,5 @@ module _ (s : Sizes) (samples : List ℤ) (old : List ℕ) where
       let cleared : faults raw b 7 ≡ c .cleared = omega (arith, w .cleared) in
       let long = w .long ∙ t .cuts-long in
       let same = read-all (mendedByte raw b) new (7 * points s) 0 long
-          (λ o l. fixed-mended o ∙ sym (w .within o (omega arith) (omega (arith, long)))) in
+      (λ o l. fixed-mended o ∙ sym (w .within o (omega arith) (omega (arith, long)))) in
       gives (tabled-mends b t ∙ (λ i. record { answer = record { number = 0; filled = filled i; cleared = cleared i }; cuts = same i }))

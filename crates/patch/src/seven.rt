@@ -2,12 +2,8 @@
 use crate::Counts;
 use crate::between;
 ghost use mathlib.Core.Path.{_≡_};
-ghost use mathlib.Core.Bool.{true, false};
-ghost use Prim.Native.Nat.{ℕ, _+_, _<_, _≤_};
-ghost use lib.IntN.{pos};
-ghost use lib.ListN.{length, getD};
-ghost use Rattle.lattice.specs.inner.Site.{most};
-ghost use Rattle.mending.specs.Mend.{sizeAt};
+ghost use Prim.Native.Nat.{_+_, _<_};
+ghost use lib.ListN.{length};
 ghost use Rattle.patch.specs.inner.Mends.{Mends, Ends, sevenRule};
 
 // Nothing to mend.
@@ -21,7 +17,14 @@ pub fn nothing() -> Counts
 }
 
 // The byte in direction d: `must` says that its edge crosses, and then `far` is the edge's far end.
-fn mend_byte(samples: &[i16], bytes: &mut [u8], must: [bool; 7], own: usize, far: [usize; 7], d: usize) -> Counts
+fn mend_byte(
+    samples: &[i16],
+    bytes: &mut [u8],
+    must: [bool; 7],
+    own: usize,
+    far: [usize; 7],
+    d: usize,
+) -> Counts
     requires { ⌜ Ends (now samples) must own far ⌝ }
     requires { ⌜ (length (now bytes) ≡ 7) × (d < 7) ⌝ }
     ensures { λ r. ⌜ Mends (sevenRule (now (samples .entry)) must own far) d (d + 1) (now (bytes .entry)) (now (bytes .exit)) r ⌝ }
@@ -47,7 +50,13 @@ fn mend_byte(samples: &[i16], bytes: &mut [u8], must: [bool; 7], own: usize, far
 }
 
 // All seven.
-pub fn mend_seven(samples: &[i16], bytes: &mut [u8], must: [bool; 7], own: usize, far: [usize; 7]) -> Counts
+pub fn mend_seven(
+    samples: &[i16],
+    bytes: &mut [u8],
+    must: [bool; 7],
+    own: usize,
+    far: [usize; 7],
+) -> Counts
     requires { ⌜ Ends (now samples) must own far ⌝ }
     requires { ⌜ length (now bytes) ≡ 7 ⌝ }
     ensures { λ r. ⌜ Mends (sevenRule (now (samples .entry)) must own far) 0 7 (now (bytes .entry)) (now (bytes .exit)) r ⌝ }

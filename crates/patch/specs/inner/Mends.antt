@@ -3,6 +3,7 @@
 --     faultBy, fixedBy                a byte's fault, and what becomes of it
 --     Mends                           a part of a table before and after, and the counts
 --     sevenRule, pointRule, tableRule the rules of a point's seven bytes and of a table
+--     Ends                            what the code asks of the edges from a point
 use Prim.Native.Nat.{ℕ, _+_, _/_, _%_, _≤_, _<_}
 use mathlib.Core.Path.{_≡_}
 use mathlib.Core.Bool.{Bool, true, false}
@@ -23,7 +24,7 @@ use Rattle.mending.specs.Mend.{sizeAt, byteTo}
 use Rattle.checks.specs.inner.Faults.{numberAt}
 use Rattle.patch.specs.declared.Counts.{Counts}
 
--- by offsets
+-- of the byte at an offset: whether it must be there, and what it becomes where it is missing
 pub record Rule : Type 0 where
   pub must : ℕ → Bool
   pub guess : ℕ → ℕ
@@ -54,7 +55,7 @@ sevenRule samples must own far =
     record { must = λ d. getD must d false; guess = λ d. byteTo samples own (At (getD far d 0)) }
 
 module _ (s : Sizes) (label : ℕ → Label) (samples : List ℤ) where
-  -- by directions
+  -- by directions and, for a table, by offsets
   abbrev pub pointRule : ℕ → Rule
   pointRule p = record { must = λ d. crosses s label p d; guess = λ d. byteTo samples p (neighbour s p (asStart d)) }
 

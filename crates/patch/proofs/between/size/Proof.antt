@@ -1,4 +1,5 @@
 -- The sign of a sample below zero is turned round in 64 bits. Assumes nothing.
+use native.Mathlib.Omega.{arith}
 use Rattle.patch.proofs.Sizes.{turned-fits, turned, straight}
 use Rattle.ground.proofs.Labels.{sample-fits}
 use Rattle.patch.proofs.between.size.Statement.{statement}
@@ -14,13 +15,13 @@ cast-result : tie.Need-cast-result
 cast-result c = let k = turned _ (c .before .fits .a) (c .if1 .taken) in (k .not-negative, k .fits)
 
 returns : tie.Need-returns
-returns c = let k = turned _ (c .before .fits .a) (c .if1 .taken) in (k .is, k .small)
+returns c = let k = turned _ (c .before .fits .a) (c .if1 .taken) in (k .is, omega (arith, k .small))
 
 cast-result-2 : tie.Need-cast-result-2
 cast-result-2 c = let k = straight _ (c .before .fits .a) (c .if1 .left) in (k .not-negative, k .fits)
 
 returns-2 : tie.Need-returns-2
-returns-2 c = let k = straight _ (c .before .fits .a) (c .if1 .left) in (k .is, k .small)
+returns-2 c = let k = straight _ (c .before .fits .a) (c .if1 .left) in (k .is, omega (arith, k .small))
 
 pub size-spec : {M : Type 1} → statement M
 size-spec = tie.close (tie.spec cast-wide sub-result cast-result returns cast-result-2 returns-2)

@@ -60,7 +60,8 @@ returns c =
     let at-start = at-if1 .before .before in
     let a = size-handed _ (record { sfits = at-start-arg .byte-between-arg .given }) in
     let b = size-handed _ (record { sfits = c .before .byte-between-arg2 .given }) in
-    missing (omega (arith, at-start .pre .1)) (at-if1 .if1 .taken) (at-if2 .if2 .taken)
+    let zero = at-if2 .if2 .taken in
+    missing (omega (arith, at-start .pre .1)) (at-if1 .if1 .taken) (omega arith)
     (c .byte-between .ensures ∙ ap held (ap₂ rounded a b)) refl
 
 nothing-requires : tie.Need-nothing-requires
@@ -85,7 +86,7 @@ returns-3 : tie.Need-returns-3
 returns-3 c =
     let at-if1 = c .before .before in
     let at-start = at-if1 .before .before in
-    stray (omega (arith, at-start .pre .1)) (at-if1 .if1 .left) (c .if3 .taken) refl
+    stray (omega (arith, at-start .pre .1)) (at-if1 .if1 .left) (c .if3 .taken) refl refl
 
 nothing-requires-2 : tie.Need-nothing-requires-2
 nothing-requires-2 c κs = search needs

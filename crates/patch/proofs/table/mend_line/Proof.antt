@@ -22,7 +22,7 @@ returns c =
     let at-start = at-quiet .before .before .before in
     let samples = at-start .args .samples .now in
     let fine = line-fine (at-start .args .s) (signs samples) samples (at-start .args .cuts .now) (at-start .args .q)
-        (at-quiet .is-quiet-line .ensures (c .before .if1 .taken)) in
+    (at-quiet .is-quiet-line .ensures (c .before .if1 .taken)) in
     fine-part (omega arith) fine (c .nothing .ensures)
 
 mend-points-requires : tie.Need-mend-points-requires

@@ -1,7 +1,7 @@
 -- The loop's invariant: the bytes of the points before the one of index x are mended. Assumes nothing.
 use Prim.Native.Nat.{_+_, _*_, _-_, _≤_}
 use native.Mathlib.Omega.{arith}
-use mathlib.Core.Path.{refl, _∙_}
+use mathlib.Core.Path.{refl}
 use lib.ListN.{length-take, length-drop}
 use Rattle.lattice.proofs.Sites.{numbers-small}
 use Rattle.moving.specs.Label.{signs}
@@ -102,7 +102,7 @@ loop-again c =
     let e = at-length .line-length .ensures .0 in
     let w = at-loop .loop .inv .2 in
     let part = seven-mended _ _ _ _ (along-own (at-start .pre .1) (omega arith) (at-along .along .ensures))
-        (omega (arith, w .long, at-start .pre .0 .cuts-long)) (at-site .mend-site .ensures) in
+    (omega (arith, w .long, at-start .pre .0 .cuts-long)) (at-site .mend-site .ensures) in
     (at-loop .loop .inv .0, omega arith, spelt refl (omega arith) (joined w part (omega arith) (omega arith) refl refl))
 
 same-length : tie.Need-same-length Inv-loop μ-loop
