@@ -1,7 +1,6 @@
 -- The byte between two samples: how near it is to the exact quotient, 256 a / (a + b). Assumes nothing.
---     HalfStep, UnderStep     the distance is at most one half, or under one; both multiplied out
---     Close, close            the first, or the second where the byte was held
---     held-some, held-byte    a held number is 1 to 255
+--     held-low, held-high, held-free, held-byte     a number that is held, or not; it is then 1 to 255
+--     close                                         the byte of two sizes is within half a step, or under one where it was held
 use Prim.Native.Nat.{ℕ, _+_, _*_, _/_, _≤_, _<_}
 use native.Mathlib.Omega.{arith}
 use native.Mathlib.Nat.{mul-le-mul-left, mod-lt, mod-add-div, mul-assoc}
@@ -10,6 +9,7 @@ use mathlib.Core.Logic.{inl, inr}
 use borrow.Author.Tests.{lt-ltb, le-ltb}
 use Rattle.basics.proofs.Test.{lt-or}
 use Rattle.mending.specs.Mend.{rounded, held}
+use Rattle.mending.specs.inner.Close.{Close, free, kept}
 
 pub held-low : (r : ℕ) → r < 1 → held r ≡ 1
 unfolding held
@@ -30,22 +30,6 @@ held-byte r =
       | inr l ↦ elim (lt-or 255 r) [ inl m ↦ rw (held-high r m) (omega arith, omega arith) | inr m ↦ rw (held-free r l m) (l, m) ]
     ]
 
-module _ (a b byte : ℕ) where
-  -- "within half a step of the exact quotient": |byte - 256 a / (a + b)| is at most 1/2; all times 2 (a + b)
-  pub record HalfStep : Type 0 where
-    pub low : 512 * a ≤ 2 * ((a + b) * byte) + (a + b)
-    pub high : 2 * ((a + b) * byte) ≤ 512 * a + (a + b)
-
-  -- "or under one step where it was held": |byte - 256 a / (a + b)| is below 1; all times a + b
-  pub record UnderStep : Type 0 where
-    pub low : 256 * a < (a + b) * byte + (a + b)
-    pub high : (a + b) * byte < 256 * a + (a + b)
-
-  -- a byte that was held is not the rounded quotient
-  pub data Close : Type 0 where
-    free : byte ≡ rounded a b → HalfStep → Close
-    held-so : (byte ≡ rounded a b → ⊥) → UnderStep → Close
-
 module _ (a b : ℕ) (some-a : 0 < a) (some-b : 0 < b) where
   abbrev r : ℕ
   r = rounded a b
@@ -65,12 +49,12 @@ module _ (a b : ℕ) (some-a : 0 < a) (some-b : 0 < b) where
   held-to-1 l =
       let zero : r ≡ 0 = omega arith in
       let none : (a + b) * r ≡ 0 = rw zero (omega arith) in
-      held-so (λ e. omega arith) (record { low = omega (arith, divided); high = omega (arith, divided) })
+      kept (λ e. omega arith) (record { low = omega (arith, divided); high = omega (arith, divided) })
 
   held-to-255 : 255 < r → Close a b 255
   held-to-255 l =
       let most = mul-le-mul-left (a + b) l in
-      held-so (λ e. omega arith) (record { low = omega (arith, divided); high = omega (arith, divided) })
+      kept (λ e. omega arith) (record { low = omega (arith, divided); high = omega (arith, divided) })
 
   pub close : Close a b (held r)
   close =

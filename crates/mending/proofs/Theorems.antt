@@ -27,7 +27,8 @@ use Rattle.filling.specs.Check.{cutFault}
 use Rattle.filling.specs.Fill.{fill}
 use Rattle.filling.proofs.Accepted.{faulted}
 use Rattle.mending.specs.Mend.{Outcome, sizeAt, byteTo, faultAt, mendedByte, faults, mended, refused, mend}
-use Rattle.mending.proofs.Step.{Close, close}
+use Rattle.mending.specs.inner.Close.{Close}
+use Rattle.mending.proofs.Step.{close}
 use Rattle.mending.proofs.Signs.{opposed-some}
 use Rattle.mending.proofs.Bytes.{missing-so, missing-of, crosses-far, byte-fine, fine-stays}
 use Rattle.mending.proofs.Tested.{recut, Refuses, tested, tabled-mends, table-long, table-at}
