@@ -123,7 +123,7 @@ struct yakuemi_mended {
 
 /*
  * Mends the cut table of an old scanner export, which lacks bytes or carries some too many, so that filling refuses it with neither 6
- * nor 7, at any band. It may still refuse the block with 5, or with 10.
+ * nor 7, at any band. It may still refuse the block for another reason: 4, 5, 10 or 14.
  *
  *   missing    a byte that is zero where one end's sample is above zero and the other's below. It becomes 256 times the size of the
  *              sample at the edge's start, divided by the sum of both sizes, rounded to a whole number, half up, and held within 1 to
@@ -131,8 +131,9 @@ struct yakuemi_mended {
  *   stray      a byte that is not zero where the ends' samples are not so, or where no edge is. It becomes 0
  *   good       every other byte. It stays
  *
- * A byte that is filled in is within half a step, a 256th of the edge, of the exact quotient, or under one step where it was held (this
- * is proved). How near the skin it is nobody knows: it is a straight-line guess from two samples, so a scanner's own cut is better.
+ * A byte that is filled in is within 1/2 of the exact quotient, or within less than 1 where it was held (a byte counts 256ths of the
+ * edge; this is proved). How near the skin it is nobody knows: it is a straight-line guess from two samples, so a scanner's own cut is
+ * better.
  *
  * Lengths: N samples and 7N cuts. The samples are read as they are: there is no band here, and the rim is not looked at.
  *

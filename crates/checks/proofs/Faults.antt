@@ -1,10 +1,10 @@
 -- Bytes at fault: of a point, of a line, of a table. Assumes nothing.
---     gap-at, none-at, stray-at, cut-at     a byte that is zero or not, where there must be a cut or must be none
---     byte-fine                             the same for a byte of a table
---     fine-of, gap-of, stray-of             what an answer says
---     wide, raise-fine, raise-wrong         an answer of a part in the whole
---     seven-is                              a point's seven bytes in the table
---     answer-fine, answer-gap, answer-stray the answer for a whole table
+--     gap-at, none-at, stray-at, cut-at       a byte that is zero or not, where there must be a cut or must be none
+--     byte-fine                               the same for a byte of a table
+--     fine-of, gap-of, stray-of               what an answer says
+--     wide, raise-fine, raise-wrong, whole-rest   an answer of a part in the whole
+--     seven-is                                a point's seven bytes in the table
+--     answer-fine, answer-gap, answer-stray   the answer for a whole table
 use Prim.Native.Nat.{ℕ, _+_, _*_, _-_, _/_, _%_, _≤_, _<_}
 use native.Mathlib.Omega.{arith}
 use mathlib.Core.Path.{_≡_, refl, sym, ap, subst, _∙_}
@@ -72,6 +72,10 @@ pub wide : {fault : ℕ → ℕ} {b a e z n o : ℕ} → Throughout fault 0 b a 
     → Wrong fault a e n o → Wrong fault b z n o
 wide t h i w =
     record { low = omega (arith, w .low); high = omega (arith, w .high); number = w .number; before = joined t (w .before) }
+
+-- the rest of a line from its first point on is the line
+pub whole-rest : {fault : ℕ → ℕ} (own : ℕ) {e : ℕ} {r : Fault} → Answered fault (7 * (own + 0)) e r → Answered fault (7 * own) e r
+whole-rest {fault} own {e} {r} w = let z : own + 0 ≡ own = omega arith in subst (λ (k : ℕ). Answered fault (7 * k) e r) z w
 
 -- a part whose numbers are counted from a on
 module _ {part whole : ℕ → ℕ} {a m : ℕ} (same : (d : ℕ) → d < m → part d ≡ whole (a + d)) where

@@ -9,11 +9,14 @@ use lattice::Sizes;
 use lattice::counts;
 use lattice::numbers;
 ghost use mathlib.Core.Path.{_≡_};
+ghost use Prim.Native.Nat.{_≤_};
 ghost use lib.ListN.{length};
+ghost use Rattle.lattice.specs.Axis.{along-x};
+ghost use Rattle.lattice.specs.Counts.{grid};
 ghost use Rattle.moving.specs.Block.{blockOf, Tabled};
 ghost use Rattle.moving.specs.Label.{signs};
 ghost use Rattle.ground.specs.inner.Lines.{Line};
-ghost use Rattle.checks.specs.inner.Faults.{Asked, PointAnswered, LineAnswered, CutAnswer};
+ghost use Rattle.checks.specs.inner.Faults.{Asked, PointAnswered, LineAnswered, RestAnswered, CutAnswer};
 
 // The first byte at fault of a point's seven, which are lent to it. Most points need only a glance.
 fn site_fault(s: Sizes, samples: &[i16], bytes: &[u8], q: Site) -> Fault
@@ -28,16 +31,17 @@ fn site_fault(s: Sizes, samples: &[i16], bytes: &[u8], q: Site) -> Fault
     seven::point_fault(bytes, must)
 }
 
-// The first byte at fault of a line of points, point by point.
-fn line_search(s: Sizes, samples: &[i16], cuts: &[u8], q: Site) -> Fault
+// The first byte at fault of a line of points from one on, point by point.
+pub fn line_search(s: Sizes, samples: &[i16], cuts: &[u8], q: Site, from: usize) -> Fault
     requires { ⌜ Tabled (blockOf s (now samples) (now cuts)) ⌝ }
     requires { ⌜ Line s (q .own) q ⌝ }
-    ensures { λ r. ⌜ LineAnswered s (signs (now (samples .entry))) (now (cuts .entry)) q r ⌝ }
+    requires { ⌜ from ≤ grid s (q .kind) along-x ⌝ }
+    ensures { λ r. ⌜ RestAnswered s (signs (now (samples .entry))) (now (cuts .entry)) q from r ⌝ }
 {
     let kind = q.kind;
     let own = q.own;
     let m = walk::line_length(s, kind);
-    for x in 0..m {
+    for x in from..m {
         let a = 7 * (own + x);
         let e = a + 7;
         let found = site_fault(s, samples, &cuts[a..e], walk::along(q, x));
@@ -50,7 +54,7 @@ fn line_search(s: Sizes, samples: &[i16], cuts: &[u8], q: Site) -> Fault
     Fault::Fine
 }
 
-// The same; most lines need only a glance.
+// The first byte at fault of a line. Most lines need only a glance.
 fn line_fault(s: Sizes, samples: &[i16], cuts: &[u8], q: Site) -> Fault
     requires { ⌜ Tabled (blockOf s (now samples) (now cuts)) ⌝ }
     requires { ⌜ Line s (q .own) q ⌝ }
@@ -59,7 +63,7 @@ fn line_fault(s: Sizes, samples: &[i16], cuts: &[u8], q: Site) -> Fault
     if quiet::is_quiet_line(s, samples, cuts, q) {
         return Fault::Fine;
     }
-    line_search(s, samples, cuts, q)
+    line_search(s, samples, cuts, q, 0)
 }
 
 // The lowest byte at fault.

@@ -1,4 +1,5 @@
--- What filling has checked where it answers 0 or 10, and what it answers for a block that passes: the law of acceptance. Assumes nothing.
+-- What filling has checked where it answers 0 or 10, and where it answers 6 or 7; and what it answers for a block that passes: the law of
+-- acceptance. Assumes nothing.
 use Prim.Native.Nat.{ℕ, _*_, _/_, _%_, _≤_, _<_}
 use native.Mathlib.Omega.{arith}
 use mathlib.Core.Path.{_≡_, refl, _∙_}
@@ -16,7 +17,7 @@ use Rattle.lattice.proofs.Sized.{fits-sized, sized-fits}
 use Rattle.moving.proofs.Band.{fits-banded, banded-fits}
 use Rattle.lattice.specs.declared.Sizes.{Sizes}
 use Rattle.moving.specs.declared.Label.{Label}
-use Rattle.moving.specs.Label.{signs, bandFits}
+use Rattle.moving.specs.Label.{signs, bandMost, bandFits}
 use Rattle.moving.specs.Reading.{Reading}
 use Rattle.moving.specs.Moving.{stateOf}
 use Rattle.moving.specs.Block.{Block, readingOf, Tabled}
@@ -62,6 +63,42 @@ module _ (band : ℕ) (b : Block) (state rows : List ℕ) where
   passed true n at more m h e = absurd (h refl e)
   passed false n at more m h e = (refl, refl, e)
 
+  -- the test of the cut bytes, and what is written after it
+  abbrev last : Outcome
+  last = if ltb (cutOf b) (7 * n) then refused state rows (faultIn b (cutOf b)) (cutOf b) else written state rows (readingOf band b)
+
+  -- every test before that of the cut bytes is passed
+  record Early (m : ℕ) : Type 0 where
+    banded : band ≤ bandMost
+    tabled : Tabled b
+    state-long : length state ≡ n
+    rim-fine : (p : ℕ) → p < n → rimFault (b .sizes) (signIn b) p ≡ false
+    is : fill band b state rows ≡ last
+    number : last .answer .number ≡ m
+
+  -- so it is where the answer is none of 1 to 5, and not 14
+  early : (m : ℕ) → ((k : ℕ) → 0 < k → k < 6 → k ≡ m → ⊥) → (14 ≡ m → ⊥) → fill band b state rows .answer .number ≡ m → Early m
+  unfolding fill faulty
+  early m other not-banded e =
+      let s1 = passed (not (sizesFit (b .sizes))) 1 0 _ m (λ t. other 1 (omega arith) (omega arith)) e in
+      let s14 = passed (not (bandFits band)) 14 0 _ m (λ t. not-banded) (s1 .2) in
+      let s2 = passed (not (eqb (length (b .samples)) n)) 2 0 _ m (λ t. other 2 (omega arith) (omega arith)) (s14 .2) in
+      let s3 = passed (not (eqb (length (b .cuts)) (7 * n))) 3 0 _ m (λ t. other 3 (omega arith) (omega arith)) (s2 .2) in
+      let s4 = passed (not (eqb (length state) n)) 4 0 _ m (λ t. other 4 (omega arith) (omega arith)) (s3 .2) in
+      let s5 = passed (ltb (rimOf b) n) 5 (rimOf b) _ m (λ t. other 5 (omega arith) (omega arith)) (s4 .2) in
+      record {
+        banded = fits-banded band (not-false _ (s14 .0));
+        tabled = record {
+          sized = fits-sized (b .sizes) (not-false _ (s1 .0));
+          samples-long = eqb-true _ _ (not-false _ (s2 .0));
+          cuts-long = eqb-true _ _ (not-false _ (s3 .0));
+        };
+        state-long = eqb-true _ _ (not-false _ (s4 .0));
+        rim-fine = lowest-none (rimFault (b .sizes) (signIn b)) n (ltb-false _ _ (s5 .0));
+        is = s1 .1 ∙ s14 .1 ∙ s2 .1 ∙ s3 .1 ∙ s4 .1 ∙ s5 .1;
+        number = s5 .2;
+      }
+
   -- the block is accepted, the state table is long enough, and what filling gives is what it writes
   pub record Passed : Type 0 where
     pub accepted : Accepted band b
@@ -69,37 +106,24 @@ module _ (band : ℕ) (b : Block) (state rows : List ℕ) where
     pub is : fill band b state rows ≡ written state rows (readingOf band b)
 
   pub passed-all : (m : ℕ) → (m ≡ 0) ⊎ (m ≡ 10) → fill band b state rows .answer .number ≡ m → Passed
-  unfolding fill faulty
+  unfolding faulty
   passed-all m k e =
-      let s1 = passed (not (sizesFit (b .sizes))) 1 0 _ m (λ t. not-early 1 (omega arith) (omega arith)) e in
-      let s14 = passed (not (bandFits band)) 14 0 _ m (λ t. not-banded) (s1 .2) in
-      let s2 = passed (not (eqb (length (b .samples)) n)) 2 0 _ m (λ t. not-early 2 (omega arith) (omega arith)) (s14 .2) in
-      let s3 = passed (not (eqb (length (b .cuts)) (7 * n))) 3 0 _ m (λ t. not-early 3 (omega arith) (omega arith)) (s2 .2) in
-      let s4 = passed (not (eqb (length state) n)) 4 0 _ m (λ t. not-early 4 (omega arith) (omega arith)) (s3 .2) in
-      let s5 = passed (ltb (rimOf b) n) 5 (rimOf b) _ m (λ t. not-early 5 (omega arith) (omega arith)) (s4 .2) in
-      let s6 = passed (ltb (cutOf b) (7 * n)) (faultIn b (cutOf b)) (cutOf b) _ m not-cut (s5 .2) in
-      let no-rim = lowest-none (rimFault (b .sizes) (signIn b)) n (ltb-false _ _ (s5 .0)) in
+      let w = early m (λ n l u. not-early n l (omega arith)) (λ f. elim k [ inl z ↦ omega arith | inr z ↦ omega arith ]) e in
+      let s6 = passed (ltb (cutOf b) (7 * n)) (faultIn b (cutOf b)) (cutOf b) _ m not-cut (w .number) in
       let no-cut = lowest-none (faulty b) (7 * n) (ltb-false _ _ (s6 .0)) in
       record {
         accepted = record {
-          banded = fits-banded band (not-false _ (s14 .0));
-          tabled = record {
-            sized = fits-sized (b .sizes) (not-false _ (s1 .0));
-            samples-long = eqb-true _ _ (not-false _ (s2 .0));
-            cuts-long = eqb-true _ _ (not-false _ (s3 .0));
-          };
-          rim-fine = no-rim;
+          banded = w .banded;
+          tabled = w .tabled;
+          rim-fine = w .rim-fine;
           cuts-fine = λ o h. eqb-true _ _ (not-false _ (no-cut o h));
         };
-        state-long = eqb-true _ _ (not-false _ (s4 .0));
-        is = s1 .1 ∙ s14 .1 ∙ s2 .1 ∙ s3 .1 ∙ s4 .1 ∙ s5 .1 ∙ s6 .1;
+        state-long = w .state-long;
+        is = w .is ∙ s6 .1;
       }
     where
       not-early : (n : ℕ) → 0 < n → n < 10 → n ≡ m → ⊥
       not-early n l u f = elim k [ inl z ↦ omega arith | inr z ↦ omega arith ]
-
-      not-banded : 14 ≡ m → ⊥
-      not-banded f = elim k [ inl z ↦ omega arith | inr z ↦ omega arith ]
 
       some : (n : ℕ) → T (not (eqb n 0)) → 0 < n
       some n t = elim (lt-or 0 n) [ inl l ↦ l | inr l ↦ absurd (T-not (eqb n 0) t (eqb-of n 0 (omega arith))) ]
@@ -122,25 +146,11 @@ module _ (band : ℕ) (b : Block) (state rows : List ℕ) where
   -- where filling answers 6 or 7, the tables have the right lengths and some byte is at fault
   pub faulted : (m : ℕ) → (m ≡ 6) ⊎ (m ≡ 7) → fill band b state rows .answer .number ≡ m
       → Tabled b × ((o : ℕ) × (o < 7 * points (b .sizes)) × (faultIn b o ≡ m))
-  unfolding fill faulty
   faulted m k e =
-      let s1 = passed (not (sizesFit (b .sizes))) 1 0 _ m (λ t. other 1 (omega arith)) e in
-      let s14 = passed (not (bandFits band)) 14 0 _ m (λ t f. elim k [ inl z ↦ omega arith | inr z ↦ omega arith ]) (s1 .2) in
-      let s2 = passed (not (eqb (length (b .samples)) n)) 2 0 _ m (λ t. other 2 (omega arith)) (s14 .2) in
-      let s3 = passed (not (eqb (length (b .cuts)) (7 * n))) 3 0 _ m (λ t. other 3 (omega arith)) (s2 .2) in
-      let s4 = passed (not (eqb (length state) n)) 4 0 _ m (λ t. other 4 (omega arith)) (s3 .2) in
-      let s5 = passed (ltb (rimOf b) n) 5 (rimOf b) _ m (λ t. other 5 (omega arith)) (s4 .2) in (
-        record {
-          sized = fits-sized (b .sizes) (not-false _ (s1 .0));
-          samples-long = eqb-true _ _ (not-false _ (s2 .0));
-          cuts-long = eqb-true _ _ (not-false _ (s3 .0));
-        },
-        cut (ltb (cutOf b) (7 * n)) refl (s5 .2),
-      )
+      let w = early m (λ n l u f. elim k [ inl z ↦ omega arith | inr z ↦ omega arith ])
+      (λ f. elim k [ inl z ↦ omega arith | inr z ↦ omega arith ]) e in
+      (w .tabled, cut (ltb (cutOf b) (7 * n)) refl (w .number))
     where
-      other : (n : ℕ) → n < 6 → n ≡ m → ⊥
-      other n u f = elim k [ inl z ↦ omega arith | inr z ↦ omega arith ]
-
       ends : (number : ℕ) → (number ≡ 0) ⊎ (number ≡ 10) → number ≡ m → ⊥
       ends number (inl z) f = elim k [ inl y ↦ omega arith | inr y ↦ omega arith ]
       ends number (inr z) f = elim k [ inl y ↦ omega arith | inr y ↦ omega arith ]
@@ -149,7 +159,8 @@ module _ (band : ℕ) (b : Block) (state rows : List ℕ) where
           → (if t then refused state rows (faultIn b (cutOf b)) (cutOf b) else written state rows (readingOf band b)) .answer .number ≡ m
           → (o : ℕ) × (o < 7 * n) × (faultIn b o ≡ m)
       cut true t f = (cutOf b, ltb-true _ _ t, f)
-      cut false t f = absurd (ends (written state rows (readingOf band b) .answer .number) (written-ends (readingOf band b)) f)
+      cut false t f =
+          absurd (ends (written state rows (readingOf band b) .answer .number) (written-ends (readingOf band b)) f)
 
   -- and the other way round: a block that passes is filled
   pub accepted-fills : Accepted band b → length state ≡ points (b .sizes) → fill band b state rows ≡ written state rows (readingOf band b)

@@ -1,4 +1,4 @@
-// The ground floor of the code: what the checks, moving, places and rows all stand on. Lines of
+// The ground floor of the code: what the checks, moving, mending, places and rows stand on. Lines of
 // points along x, far ends by strides, whole ranges of a table, labels of samples, the violation test
 // and the six-volume.
 pub mod label;

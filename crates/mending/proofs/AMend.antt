@@ -1,4 +1,4 @@
--- What mending makes of pairs of samples, and of blocks of one cube. Assumes nothing. (Files are checked in the order of their names: this
+-- What mending makes of pairs of samples, and of the least blocks. Assumes nothing. (Files are checked in the order of their names: this
 -- one first, so that a wrong rule is refused by what it gives.)
 use Prim.Native.Nat.{ℕ}
 use mathlib.Core.Path.{_≡_, refl}
@@ -13,14 +13,14 @@ use Rattle.mending.specs.Mend.{Outcome, sizeOf, rounded, held, byteTo, m
 
 -- the samples of an edge's start and of its far end
 infix 70 _to_
-pub data Ends : Type 0 where
-  _to_ : ℤ → ℤ → Ends
+pub data Pair : Type 0 where
+  _to_ : ℤ → ℤ → Pair
 
-abbrev byteOf : Ends → ℕ
+abbrev byteOf : Pair → ℕ
 byteOf (a to b) = held (rounded (sizeOf a) (sizeOf b))
 
--- equal sizes; halves, which go up; just below a half and held to 1; a half and more, held to 255; -32768, whose size is not 32,767
-unfoldable pub pairs : List Ends
+-- equal sizes; 3 and 5; halves, which go up; just below 1/2, held to 1; 255 1/2 and more, held to 255; -32768, whose size is not 32,767
+unfoldable pub pairs : List Pair
 pairs =
     pos 5 to negℤ (pos 5)
     ∷ negℤ (pos 3) to pos 5

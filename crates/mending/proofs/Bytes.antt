@@ -1,8 +1,10 @@
 -- What becomes of a byte, by its fault. Assumes nothing.
---     missing-so, stray-so, good-so     the three cases, by what the byte is and whether its edge crosses
---     missing-of                        a missing byte is 0, and its edge exists and crosses
---     byte-fine                         a mended byte is not at fault
---     fine-stays                        a byte that is not at fault stays
+--     missing-so, stray-so, cut-so, blank-so   the four cases, by what the byte is and whether its edge crosses
+--     by-case                                  one of them is at hand
+--     crosses-far                              an edge that crosses leads somewhere
+--     byte-fine                                a mended byte is not at fault
+--     fine-stays                               a byte that is not at fault stays
+--     missing-of                               a missing byte is 0, and its edge crosses
 use Prim.Native.Nat.{ℕ, _/_, _%_}
 use native.Mathlib.Omega.{arith}
 use mathlib.Core.Path.{_≡_, refl, sym, ap, subst, _∙_}
@@ -36,7 +38,7 @@ module _ (label : ℕ → Label) (b : Block) (o : ℕ) where
   byte = getD (b .cuts) o 0
 
   -- the byte that a missing one becomes
-  abbrev pub guess : ℕ
+  abbrev guess : ℕ
   guess = byteTo (b .samples) start far
 
   pub missing-so : must ≡ true → byte ≡ 0 → (faultAt label b o ≡ 6) × (mendedByte label b o ≡ guess)
@@ -76,7 +78,7 @@ module _ (label : ℕ → Label) (b : Block) (o : ℕ) where
       go Nothing e c = absurd (subst T (sym c) tt)
       go (At q) e c = (q, e, c)
 
-  -- so its byte is one
+  -- so what its byte becomes is not 0
   guess-some : must ≡ true → guess ≡ 0 → ⊥
   unfolding byteTo
   guess-some c z =

@@ -1,5 +1,5 @@
 -- The three tests of mending: a block fails one of them, whatever its cut table holds, or it is mended. Assumes nothing.
---     Refuses, tested       which of both
+--     Refuses, tested       which of the two
 --     tabled-mends          a block that passes is mended
 --     table-long, table-at  the mended table
 use Prim.Native.Nat.{ℕ, _*_, _<_}

@@ -69,7 +69,7 @@ module _ (b : Block) where
     refused-again : mend after ≡ refused (mend b .cuts) n
     refused-again = r .is (mend b .cuts) (ap (λ (m : Outcome). length (m .cuts)) refused-is)
 
-  -- an answer 0 has tables of the right lengths, and so has a block whose mended table has
+  -- where the answer is 0, or the mended block passes, the tables have the right lengths
   answered : mend b .answer .number ≡ 0 → Tabled b
   answered e = go (tested b)
     where

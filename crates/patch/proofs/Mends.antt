@@ -1,9 +1,10 @@
 -- Parts of a cut table that are mended: one byte, nothing to do, two parts one after the other, a part that was lent. Assumes nothing.
---     missing, cut, blank, stray     one byte, by what it is and whether its edge crosses
+--     missing, stray, cut, blank     one byte, by what it is and whether its edge crosses
 --     fine-part, none-yet            a part without a fault, and none
---     joined                         a part, then the next
---     same-rule                      two rules that agree in a part
---     lent-part                      a part that was lent, in the whole table
+--     joined, spelt                  a part, then the next; ends that are spelt otherwise
+--     few                            no more is counted than there are bytes
+--     same-due                       two dues that agree in a part
+--     shifted, lent-part             a part that was lent, in the whole table
 use Prim.Native.Nat.{ℕ, suc, _+_, _-_, _≤_, _<_}
 use native.Mathlib.Omega.{arith}
 use mathlib.Core.Path.{_≡_, refl, sym, ap, subst, _∙_}
@@ -21,13 +22,13 @@ use Rattle.basics.proofs.Search.{count-le, count-none, count-same, count-parts,
 use Rattle.checks.specs.inner.Search.{Throughout}
 use Rattle.checks.specs.inner.Faults.{numberAt}
 use Rattle.patch.specs.declared.Counts.{Counts}
-use Rattle.patch.specs.inner.Mends.{Rule, faultBy, fixedBy, faultsBefore, Mends}
+use Rattle.patch.specs.inner.Mends.{Due, faultBy, fixedBy, faultsBefore, Mends}
 use Rattle.patch.proofs.Part.{back, lent-at, back-long, back-before, back-within, back-after}
 
 abbrev pub counts : ℕ → ℕ → Counts
 counts f c = record { filled = f; cleared = c }
 
-module _ (r : Rule) (old : List ℕ) where
+module _ (r : Due) (old : List ℕ) where
   -- a fault and what becomes of a byte hang on that byte alone
   fault-alone : (new : List ℕ) (o : ℕ) → getD new o 0 ≡ getD old o 0 → faultBy r new o ≡ faultBy r old o
   fault-alone new o e = ap (numberAt (r .must o)) e
@@ -64,7 +65,7 @@ module _ (r : Rule) (old : List ℕ) where
       next : (d : ℕ) → d + 1 ≡ suc d
       next d = omega arith
 
-module _ {r : Rule} where
+module _ {r : Due} where
   pub fine-part : {old : List ℕ} {a e : ℕ} {c : Counts} → a ≤ e → Throughout (faultBy r old) 0 a e → c ≡ counts 0 0 → Mends r a e old old c
   fine-part {old} {a} {e} l t z =
       rw z
@@ -122,7 +123,8 @@ module _ {r : Rule} where
         (record {
           long = length-set old d v;
           before = λ o h. getD-set-other old d o v 0 (λ i. omega arith);
-          within = λ o h i. ap (λ (j : ℕ). getD (set old d v) j 0) (here o h i) ∙ getD-set-same old d v 0 u ∙ f ∙ ap (fixedBy r old) (sym (here o h i));
+          within = λ o h i. ap (λ (j : ℕ). getD (set old d v) j 0) (here o h i) ∙ getD-set-same old d v 0 u ∙ f
+              ∙ ap (fixedBy r old) (sym (here o h i));
           after = λ o h. getD-set-other old d o v 0 (λ i. omega arith);
           filled = one-more r old d 6 k e;
           cleared = one-more r old d 7 k e;
@@ -154,12 +156,12 @@ module _ {r : Rule} where
     unfolding numberAt
     blank m e z = good (rw (m, eq-eqb _ _ e) refl) z
 
--- two rules that agree in a part, as to the bytes that become of missing ones only where there must be one
-module _ {r t : Rule} {a e : ℕ} (must : (o : ℕ) → a ≤ o → o < e → r .must o ≡ t .must o)
+-- two dues that agree in a part on which bytes must be there and, where one must, on what a missing one becomes
+module _ {r t : Due} {a e : ℕ} (must : (o : ℕ) → a ≤ o → o < e → r .must o ≡ t .must o)
     (guess : (o : ℕ) → a ≤ o → o < e → t .must o ≡ true → r .guess o ≡ t .guess o) where
-  pub same-rule : {old new : List ℕ} {c : Counts} → a ≤ e → Mends r a e old new c → Mends t a e old new c
+  pub same-due : {old new : List ℕ} {c : Counts} → a ≤ e → Mends r a e old new c → Mends t a e old new c
   unfolding fixedBy
-  same-rule {old} l w =
+  same-due {old} l w =
       record {
         long = w .long;
         before = w .before;
@@ -181,12 +183,12 @@ module _ {r t : Rule} {a e : ℕ} (must : (o : ℕ) → a ≤ o → o < e → r 
           count-rest (λ j. eqb (faultBy r old j) n) (λ j. eqb (faultBy t old j) n) a e l
           (λ o i u. ap (λ (m : Bool). eqb (numberAt m (getD old o 0)) n) (must o i u))
 
--- the rule of the bytes from a on
-abbrev pub shifted : Rule → ℕ → Rule
+-- what is due of the bytes from a on
+abbrev pub shifted : Due → ℕ → Due
 shifted r a = record { must = λ d. r .must (a + d); guess = λ d. r .guess (a + d) }
 
 -- n bytes that were lent from a on
-module _ (r : Rule) (a n : ℕ) (xs : List ℕ) where
+module _ (r : Due) (a n : ℕ) (xs : List ℕ) where
   lent-fixed : (d : ℕ) → d < n → fixedBy (shifted r a) (take n (drop a xs)) d ≡ fixedBy r xs (a + d)
   unfolding fixedBy
   lent-fixed d l = rw (lent-at a n xs d l) refl

@@ -1,4 +1,4 @@
--- The whole table, mended by its rule, is the one of the definition; and the refusals. Assumes nothing.
+-- The whole table, mended part by part, is the one of the definition; and the refusals. Assumes nothing.
 --     refuses-1, refuses-2, refuses-3     each refusal
 --     whole                               a table that passes
 use Prim.Native.Nat.{ℕ, _*_}
@@ -24,7 +24,7 @@ use Rattle.mending.proofs.Bytes.{by-case, missing-so, cut-so, blank-so, stray-s
 use Rattle.mending.proofs.Tested.{tabled-mends}
 use Rattle.checks.specs.inner.Faults.{numberAt}
 use Rattle.patch.specs.declared.Counts.{Counts}
-use Rattle.patch.specs.inner.Mends.{Mends, fixedBy, tableRule}
+use Rattle.patch.specs.inner.Mends.{Mends, fixedBy, tableDue}
 
 module _ (s : Sizes) (samples : List ℤ) (old : List ℕ) where
   abbrev b : Block
@@ -57,7 +57,7 @@ module _ (s : Sizes) (samples : List ℤ) (old : List ℕ) where
       unfolding mend
       refuses-3 f e n = refused-so f (rw (sized-fits s h, eq-eqb _ _ e, ne-eqb _ _ n) refl)
 
-  fixed-mended : (o : ℕ) → mendedByte raw b o ≡ fixedBy (tableRule s raw samples) old o
+  fixed-mended : (o : ℕ) → mendedByte raw b o ≡ fixedBy (tableDue s raw samples) old o
   unfolding fixedBy
   fixed-mended o =
       by-case raw b o
@@ -66,7 +66,7 @@ module _ (s : Sizes) (samples : List ℤ) (old : List ℕ) where
       (λ c z. blank-so raw b o c z .1 ∙ z ∙ sym (rw c refl))
       (λ c n. stray-so raw b o c n .1 ∙ sym (rw c refl))
 
-  pub whole : {new : List ℕ} {c : Counts} → Tabled b → Mends (tableRule s raw samples) 0 (7 * points s) old new c
+  pub whole : {new : List ℕ} {c : Counts} → Tabled b → Mends (tableDue s raw samples) 0 (7 * points s) old new c
       → Gives (record { number = 0; filled = c .filled; cleared = c .cleared }) new
   unfolding faults cutFault numberAt count
   whole {new} {c} t w =

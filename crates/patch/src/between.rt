@@ -3,7 +3,7 @@ ghost use mathlib.Core.Path.{_≡_};
 ghost use Prim.Native.Nat.{_<_, _≤_};
 ghost use Rattle.mending.specs.Mend.{sizeOf, rounded, held};
 
-// A sample's size. That of -32768 is 32768, which 16 bits do not hold.
+// A sample's size. That of -32768 is 32768, which 16 bits with a sign do not hold.
 fn size(a: i16) -> u32
     ensures { λ r. ⌜ r ≡ sizeOf a ⌝ }
     ensures { λ r. ⌜ r ≤ 32768 ⌝ }

@@ -4,7 +4,7 @@ use crate::between;
 ghost use mathlib.Core.Path.{_≡_};
 ghost use Prim.Native.Nat.{_+_, _<_};
 ghost use lib.ListN.{length};
-ghost use Rattle.patch.specs.inner.Mends.{Mends, Ends, sevenRule};
+ghost use Rattle.patch.specs.inner.Mends.{Mends, Ends, sevenDue};
 
 // Nothing to mend.
 pub fn nothing() -> Counts
@@ -27,7 +27,7 @@ fn mend_byte(
 ) -> Counts
     requires { ⌜ Ends (now samples) must own far ⌝ }
     requires { ⌜ (length (now bytes) ≡ 7) × (d < 7) ⌝ }
-    ensures { λ r. ⌜ Mends (sevenRule (now (samples .entry)) must own far) d (d + 1) (now (bytes .entry)) (now (bytes .exit)) r ⌝ }
+    ensures { λ r. ⌜ Mends (sevenDue (now (samples .entry)) must own far) d (d + 1) (now (bytes .entry)) (now (bytes .exit)) r ⌝ }
 {
     if must[d] {
         if bytes[d] == 0 {
@@ -59,7 +59,7 @@ pub fn mend_seven(
 ) -> Counts
     requires { ⌜ Ends (now samples) must own far ⌝ }
     requires { ⌜ length (now bytes) ≡ 7 ⌝ }
-    ensures { λ r. ⌜ Mends (sevenRule (now (samples .entry)) must own far) 0 7 (now (bytes .entry)) (now (bytes .exit)) r ⌝ }
+    ensures { λ r. ⌜ Mends (sevenDue (now (samples .entry)) must own far) 0 7 (now (bytes .entry)) (now (bytes .exit)) r ⌝ }
 {
     let mut filled: usize = 0;
     let mut cleared: usize = 0;

@@ -50,6 +50,7 @@ mendings =
     -- "A stray byte becomes 0": on an edge that does not cross, where no edge is, in the last place, beside a sample of zero
     ∷ mends (changed (bytes-at (0 := 7 ∷ 14 := 9 ∷ 244 := 255 ∷ []))) 0 3 givenCuts
     ∷ mends (changed (sample-at 14 (pos 0))) 0 1 (set givenCuts 91 0)
+    -- one of each
     ∷ mends (changed (bytes-at (0 := 7 ∷ 91 := 0 ∷ []))) 1 1 givenCuts
     -- "rounded half up": from 13 to 14 the quotient is 1 1/2, from 12 to 13 it is 254 1/2; 3 and 5 elsewhere
     ∷ emptied (13 is pos 3 ∷ 14 is negℤ (pos 509) ∷ 12 is negℤ (pos 509) ∷ []) 14
@@ -59,7 +60,7 @@ mendings =
     ∷ emptied (13 is pos 1 ∷ 14 is negℤ (pos 512) ∷ 16 is negℤ (pos 511) ∷ 12 is negℤ (pos 512) ∷ 10 is negℤ (pos 511) ∷ []) 14
     (30 := 213 ∷ 71 := 255 ∷ 84 := 255 ∷ 91 := 1 ∷ 92 := 1 ∷ 93 := 43 ∷ 94 := 43 ∷ 95 := 43 ∷ 96 := 43 ∷ 97 := 43
     ∷ 192 := 213 ∷ 200 := 213 ∷ 208 := 213 ∷ 216 := 213 ∷ [])
-    -- -32768 has size 32,768, though 16 bits hold no such size: with 32,767 the bytes 91 and 84 would be 24 and 232. 3312 and 5 elsewhere
+    -- -32768 has size 32,768, though 16 bits with a sign hold none such: with 32,767 the bytes 91 and 84 would be 24 and 232. 3312 and 5 elsewhere
     ∷ emptied (13 is pos 3312 ∷ 14 is negℤ (pos 32768) ∷ 12 is negℤ (pos 32768) ∷ []) 14
     (30 := 1 ∷ 71 := 1 ∷ 84 := 233 ∷ 91 := 23 ∷ 92 := 255 ∷ 93 := 255 ∷ 94 := 255 ∷ 95 := 255 ∷ 96 := 255 ∷ 97 := 255
     ∷ 192 := 1 ∷ 200 := 1 ∷ 208 := 1 ∷ 216 := 1 ∷ [])

@@ -13,7 +13,7 @@ usage: mesh FILE OUT           a block file's mesh in cubes, as OUT.vtk, OUT.msh
        mesh --picture FILE PNG a picture of a block file's mesh, cut open
        mesh --part FILE        writes the block file of a part to try: an engine mount
 With --band N before FILE, samples of size N or less count as zero: N is the scanner's flicker, 0 to 32767.
-With --mend before FILE, the cut table of an old export is mended before the block is filled: a line more says how many
+With --mend before FILE, the cut table of an old export is mended before the block is filled: one more line says how many
 bytes were missing and are filled in, and how many were stray and are cleared. FILE stays as it is.
 A block, a band or a unit that the library refuses is answered with `refused`, number and place, and exit code 1.
 ";

@@ -395,7 +395,7 @@ pub fn fill(
 /// Mends the cut table of an old export, N samples and 7N cut bytes, so that [`fill`] refuses it with neither 6 nor 7.
 ///
 /// A missing byte becomes 256 times the size of the sample at the edge's start, divided by the sum of both ends' sizes, rounded half up and
-/// held within 1 to 255: within half a step of the quotient, or under one where it was held, which is proved. That is a straight-line
+/// held within 1 to 255: within 1/2 of the quotient, or within less than 1 where it was held, which is proved. That is a straight-line
 /// guess, and a scanner's own cut is better. A stray byte becomes 0, good bytes stay, and a refusal changes nothing. The samples are
 /// read as they are, without a band.
 pub fn mend(sizes: [u32; 3], samples: &[i16], cuts: &mut [u8]) -> Result<Mending, Refusal> {

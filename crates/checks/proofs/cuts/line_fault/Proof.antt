@@ -1,5 +1,6 @@
 -- A glance, or the search. Assumes nothing.
 use Rattle.checks.specs.inner.Faults.{fine}
+use Rattle.checks.proofs.Faults.{whole-rest}
 use borrow.Author.Needs.{needs}
 use Rattle.checks.proofs.cuts.line_fault.Statement.{statement}
 use Rattle.checks.proofs.cuts.line_fault.Tie as tie
@@ -14,7 +15,7 @@ line-search-requires : tie.Need-line-search-requires
 line-search-requires c κs = search needs
 
 returns-2 : tie.Need-returns-2
-returns-2 c = search needs
+returns-2 c = whole-rest (c .before .before .before .before .args .q .own) (c .line-search .ensures)
 
 pub line-fault-spec : {M : Type 1} → statement M
 line-fault-spec =

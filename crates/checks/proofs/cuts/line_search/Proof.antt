@@ -1,4 +1,4 @@
--- The loop's invariant: no byte before those of the point of index x is at fault. Assumes nothing.
+-- The loop's invariant: from the first point on, no byte before those of the point of index x is at fault. Assumes nothing.
 use Prim.Native.Nat.{_+_, _*_, _-_, _≤_}
 use native.Mathlib.Omega.{arith}
 use lib.ListN.{length-take, length-drop}
@@ -18,11 +18,11 @@ use Rattle.checks.proofs.cuts.line_search.Statement.{statement}
 use Rattle.checks.proofs.cuts.line_search.Tie as tie
 
 abbrev Inv-loop : tie.InvT-loop
-Inv-loop s samples cuts q own m x₀ x =
-    Room s own m × (x ≤ m) × Throughout (cutFault s (signs samples) cuts) 0 (7 * own) (7 * (own + x))
+Inv-loop s samples cuts q from own m x₀ x =
+    Room s own m × (from ≤ x) × (x ≤ m) × Throughout (cutFault s (signs samples) cuts) 0 (7 * (own + from)) (7 * (own + x))
 
 abbrev μ-loop : tie.MeasureT-loop
-μ-loop s samples cuts q own m x₀ x = m - x
+μ-loop s samples cuts q from own m x₀ x = m - x
 
 line-length-requires : tie.Need-line-length-requires Inv-loop μ-loop
 line-length-requires c κs = c .before .pre .0 .sized
@@ -30,7 +30,8 @@ line-length-requires c κs = c .before .pre .0 .sized
 loop-holds : tie.Need-loop-holds Inv-loop μ-loop
 loop-holds c =
     let at-start = c .before .before in
-    (room (at-start .pre .0 .sized) (at-start .pre .1) (c .line-length .ensures .0), omega arith, none-yet (omega arith))
+    let e = c .line-length .ensures .0 in
+    (room (at-start .pre .0 .sized) (at-start .pre .1 .0) e, omega arith, omega (arith, at-start .pre .1 .1), none-yet (omega arith))
 
 add-a : tie.Need-add-a Inv-loop μ-loop
 add-a c = omega arith
@@ -54,7 +55,7 @@ along-requires : tie.Need-along-requires Inv-loop μ-loop
 along-requires c κs =
     let at-length = c .before .before .before in
     let at-start = at-length .before .before in
-    let n = numbers-small (at-start .args .s) (at-start .args .q) (at-start .pre .0 .sized) (sited (line-stands (at-start .pre .1))) in
+    let n = numbers-small (at-start .args .s) (at-start .args .q) (at-start .pre .0 .sized) (sited (line-stands (at-start .pre .1 .0))) in
     let e = at-length .line-length .ensures .1 in
     (n .0, n .1, omega arith)
 
@@ -64,7 +65,7 @@ site-fault-requires c κs =
     let at-length = in-loop .before .before in
     let at-start = at-length .before .before in
     let t = at-start .pre .0 in (
-      line-point (t .sized) (at-start .pre .1) (at-length .line-length .ensures .0) (t .samples-long) (in-loop .loop-test .taken) (c .along .ensures),
+      line-point (t .sized) (at-start .pre .1 .0) (at-length .line-length .ensures .0) (t .samples-long) (in-loop .loop-test .taken) (c .along .ensures),
       simp (length-take, length-drop) (omega (arith, t .cuts-long)),
     )
 
@@ -74,8 +75,8 @@ enum-told c = search needs
 enum-known-found : tie.Need-enum-known-found Inv-loop μ-loop
 enum-known-found c = search needs
 
-add-t20 : tie.Need-add-t20 Inv-loop μ-loop
-add-t20 c =
+add-t21 : tie.Need-add-t21 Inv-loop μ-loop
+add-t21 c =
     let at-site = c .before .before .before in
     omega (arith, gap-of (at-site .site-fault .ensures) (c .before .found .given .1) .high)
 
@@ -87,15 +88,15 @@ returns c =
     let at-length = at-loop .before in
     let at-start = at-length .before .before in
     let e = at-length .line-length .ensures .0 in
-    let same = seven-is _ _ _ (along-own (at-start .pre .1) (omega arith) (at-along .along .ensures)) in
-    gap (wide (at-loop .loop .inv .2) (omega arith) (omega arith)
+    let same = seven-is _ _ _ (along-own (at-start .pre .1 .0) (omega arith) (at-along .along .ensures)) in
+    gap (wide (at-loop .loop .inv .3) (omega arith) (omega arith)
     (raise-wrong same (gap-of (at-site .site-fault .ensures) (c .before .found .given .1))))
 
 enum-known-found-2 : tie.Need-enum-known-found-2 Inv-loop μ-loop
 enum-known-found-2 c = search needs
 
-add-t21 : tie.Need-add-t21 Inv-loop μ-loop
-add-t21 c =
+add-t22 : tie.Need-add-t22 Inv-loop μ-loop
+add-t22 c =
     let at-site = c .before .before .before in
     omega (arith, stray-of (at-site .site-fault .ensures) (c .before .found2 .given .1) .high)
 
@@ -107,8 +108,8 @@ returns-2 c =
     let at-length = at-loop .before in
     let at-start = at-length .before .before in
     let e = at-length .line-length .ensures .0 in
-    let same = seven-is _ _ _ (along-own (at-start .pre .1) (omega arith) (at-along .along .ensures)) in
-    stray (wide (at-loop .loop .inv .2) (omega arith) (omega arith)
+    let same = seven-is _ _ _ (along-own (at-start .pre .1 .0) (omega arith) (at-along .along .ensures)) in
+    stray (wide (at-loop .loop .inv .3) (omega arith) (omega arith)
     (raise-wrong same (stray-of (at-site .site-fault .ensures) (c .before .found2 .given .1))))
 
 add-x : tie.Need-add-x Inv-loop μ-loop
@@ -125,14 +126,14 @@ loop-again c =
     let at-length = at-loop .before in
     let at-start = at-length .before .before in
     let e = at-length .line-length .ensures .0 in
-    let same = seven-is _ _ _ (along-own (at-start .pre .1) (omega arith) (at-along .along .ensures)) in
+    let same = seven-is _ _ _ (along-own (at-start .pre .1 .0) (omega arith) (at-along .along .ensures)) in
     let w = raise-fine same (fine-of (at-site .site-fault .ensures) (c .enum-told .given .1)) in
-    (at-loop .loop .inv .0, omega arith, joined (at-loop .loop .inv .2) (upto (omega arith) w))
+    (at-loop .loop .inv .0, omega arith, omega arith, joined (at-loop .loop .inv .3) (upto (omega arith) w))
 
 returns-3 : tie.Need-returns-3 Inv-loop μ-loop
 returns-3 c =
     let e = c .before .before .line-length .ensures .0 in
-    fine (upto (omega arith) (c .before .loop .inv .2))
+    fine (upto (omega arith) (c .before .loop .inv .3))
 
 pub line-search-spec : {M : Type 1} → statement M
 line-search-spec =
@@ -152,10 +153,10 @@ line-search-spec =
     site-fault-requires
     enum-told
     enum-known-found
-    add-t20
+    add-t21
     returns
     enum-known-found-2
-    add-t21
+    add-t22
     returns-2
     add-x
     loop-less

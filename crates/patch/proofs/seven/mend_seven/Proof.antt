@@ -2,14 +2,14 @@
 use Prim.Native.Nat.{_-_, _≤_}
 use native.Mathlib.Omega.{arith}
 use mathlib.Core.Path.{refl, _∙_}
-use Rattle.patch.specs.inner.Mends.{Mends, sevenRule}
+use Rattle.patch.specs.inner.Mends.{Mends, sevenDue}
 use Rattle.patch.proofs.Mends.{counts, none-yet, joined, few, spelt}
 use Rattle.patch.proofs.seven.mend_seven.Statement.{statement}
 use Rattle.patch.proofs.seven.mend_seven.Tie as tie
 
 abbrev Inv-loop : tie.InvT-loop
 Inv-loop samples bytes₀ must own far filled₀ cleared₀ d₀ bytes filled cleared d =
-    (d ≤ 7) × Mends (sevenRule samples must own far) 0 d bytes₀ bytes (counts filled cleared)
+    (d ≤ 7) × Mends (sevenDue samples must own far) 0 d bytes₀ bytes (counts filled cleared)
 
 abbrev μ-loop : tie.MeasureT-loop
 μ-loop samples bytes₀ must own far filled₀ cleared₀ d₀ bytes filled cleared d = 7 - d

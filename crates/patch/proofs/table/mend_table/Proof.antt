@@ -7,7 +7,7 @@ use Rattle.ground.specs.inner.Lines.{Line}
 use Rattle.ground.proofs.Points.{points-some}
 use Rattle.ground.proofs.Lines.{line-self, line-fits}
 use Rattle.checks.proofs.Walk.{first-line, room, next-own}
-use Rattle.patch.specs.inner.Mends.{Mends, tableRule}
+use Rattle.patch.specs.inner.Mends.{Mends, tableDue}
 use Rattle.patch.proofs.Mends.{counts, none-yet, spelt, joined, few}
 use Rattle.patch.proofs.Site.{still-tabled}
 use Rattle.patch.proofs.table.mend_table.Statement.{statement}
@@ -15,7 +15,7 @@ use Rattle.patch.proofs.table.mend_table.Tie as tie
 
 abbrev Inv-loop : tie.InvT-loop
 Inv-loop s samples cuts₀ n q₀ filled₀ cleared₀ cuts q filled cleared =
-    Line s (q .own) q × Mends (tableRule s (signs samples) samples) 0 (7 * q .own) cuts₀ cuts (counts filled cleared)
+    Line s (q .own) q × Mends (tableDue s (signs samples) samples) 0 (7 * q .own) cuts₀ cuts (counts filled cleared)
 
 abbrev μ-loop : tie.MeasureT-loop
 μ-loop s samples cuts₀ n q₀ filled₀ cleared₀ cuts q filled cleared = n - q .own
