@@ -2,4 +2,5 @@ pub mod Sizes
 pub mod Part
 pub mod Mends
 pub mod Site
+pub mod Line
 pub mod Whole

@@ -1,41 +1,31 @@
 -- A point's seven bytes, by its edges, and their place in the table. Assumes nothing.
---     line-fine               a line without a fault
 --     site-ends, site-mended  what mending seven bytes asks, and what it gives
 --     seven-mended            the same in the table
---     still-tabled            a table stays as long as it is
---     in-line, to-fault       where the first fault of a line is found
---     fine-to                 what stands before it stays
 use Prim.Native.Nat.{ℕ, _+_, _*_, _-_, _/_, _%_, _≤_, _<_}
 use native.Mathlib.Omega.{arith}
-use mathlib.Core.Path.{_≡_, refl, sym, ap, subst, _∙_}
+use mathlib.Core.Path.{_≡_, sym, ap, subst, _∙_}
 use mathlib.Core.Bool.{Bool, true, false}
 use mathlib.Core.List.{List}
 use lib.IntN.{ℤ}
 use lib.ListN.{length, getD, take, drop}
 use Rattle.lattice.specs.declared.Sizes.{Sizes}
 use Rattle.lattice.specs.declared.Site.{Site}
-use Rattle.lattice.specs.declared.Kind.{Kind}
-use Rattle.lattice.specs.declared.Kind.the-variants.{Corner, Centre}
 use Rattle.lattice.specs.declared.Near.the-variants.{At}
-use Rattle.lattice.specs.Axis.{along-x}
-use Rattle.lattice.specs.Counts.{Sized, grid, points}
+use Rattle.lattice.specs.Counts.{points}
 use Rattle.lattice.specs.Direction.{asStart}
 use Rattle.lattice.specs.Edge.{neighbour}
 use Rattle.moving.specs.declared.Label.{Label}
 use Rattle.moving.specs.Label.{signs, opposed}
-use Rattle.moving.specs.Block.{blockOf, Tabled}
-use Rattle.filling.specs.Check.{crosses, crossesTo, cutFault}
+use Rattle.filling.specs.Check.{crosses, crossesTo}
 use Rattle.ground.specs.inner.Strides.{endsAt}
 use Rattle.mending.specs.Mend.{sizeAt, byteTo}
 use Rattle.mending.proofs.Signs.{opposed-some}
-use Rattle.checks.specs.inner.Search.{Throughout}
-use Rattle.checks.specs.inner.Faults.{Asked, LineFine, Wrong, numberAt, crossingsAt}
-use Rattle.checks.proofs.Search.{upto}
+use Rattle.checks.specs.inner.Faults.{Asked, crossingsAt}
 use Rattle.checks.proofs.Faults.{crossing-at}
 use Rattle.checks.proofs.Edges.{asked-in, crosses-to}
 use Rattle.patch.specs.declared.Counts.{Counts}
-use Rattle.patch.specs.inner.Mends.{Mends, Ends, FineTo, faultBy, sevenDue, pointDue, tableDue}
-use Rattle.patch.proofs.Mends.{counts, fine-part, same-due, lent-part}
+use Rattle.patch.specs.inner.Mends.{Mends, Ends, sevenDue, pointDue, tableDue}
+use Rattle.patch.proofs.Mends.{same-due, lent-part}
 use Rattle.patch.proofs.Part.{back}
 
 module _ {s : Sizes} {samples : List ℤ} {q : Site} (a : Asked s samples q) {must : List Bool} {far : List ℕ}
@@ -99,34 +89,3 @@ module _ (s : Sizes) (label : ℕ → Label) (samples : List ℤ) (xs : List ℕ
       (in-table p h
       (subst (λ (k : ℕ). Mends (pointDue s label samples p) 0 7 (take k (drop (7 * p) xs)) ys c) n
       (subst (λ (k : ℕ). Mends (pointDue s label samples k) 0 7 (take (7 * p + 7 - 7 * p) (drop (7 * p) xs)) ys c) e w)))
-
--- a line without a fault
-pub line-fine : (s : Sizes) (label : ℕ → Label) (samples : List ℤ) (cuts : List ℕ) (q : Site) → LineFine s label cuts q
-    → Throughout (faultBy (tableDue s label samples) cuts) 0 (7 * q .own) (7 * (q .own + grid s (q .kind) along-x))
-unfolding cutFault numberAt
-line-fine s label samples cuts q t = record { is = λ o l u. t .is o l u }
-
--- a table that is as long as before is still long enough
-pub still-tabled : {s : Sizes} {samples : List ℤ} {old new : List ℕ} → Tabled (blockOf s samples old) → length new ≡ length old
-    → Tabled (blockOf s samples new)
-still-tabled t e = record { sized = t .sized; samples-long = t .samples-long; cuts-long = e ∙ t .cuts-long }
-
--- a line, or the rest of one, up to the point that the first fault is found at
-module _ (s : Sizes) (label : ℕ → Label) (cuts : List ℕ) (q : Site) (x : ℕ) {n o : ℕ}
-    (w : Wrong (cutFault s label cuts) (7 * (q .own + x)) (7 * (q .own + grid s (q .kind) along-x)) n o) where
-  pub in-line : q .own ≤ o / 7
-  in-line = omega (arith, w .low)
-
-  pub to-fault : FineTo s label cuts q x (o / 7 - q .own)
-  to-fault = record { low = omega (arith, w .low); high = omega (arith, w .high); fine = upto (omega (arith, w .low)) (w .before) }
-
--- it stays
-pub fine-to : (s : Sizes) (label : ℕ → Label) (samples : List ℤ) (cuts : List ℕ) (q : Site) (x y : ℕ) → FineTo s label cuts q x y
-    → Mends (tableDue s label samples) (7 * (q .own + x)) (7 * (q .own + y)) cuts cuts (counts 0 0)
-unfolding cutFault numberAt
-fine-to s label samples cuts q x y f = fine-part (omega (arith, f .low)) (record { is = λ o l u. f .fine .is o l u }) refl
-
--- a line has at most 65 points
-pub line-short : (s : Sizes) → Sized s → (k : Kind) → grid s k along-x ≤ 65
-line-short s h Corner = omega (arith, h .x-high)
-line-short s h Centre = omega (arith, h .x-high)

@@ -2,7 +2,7 @@
 use native.Mathlib.Omega.{arith}
 use Rattle.moving.specs.Label.{signs}
 use Rattle.patch.proofs.Mends.{fine-part}
-use Rattle.patch.proofs.Site.{line-fine}
+use Rattle.patch.proofs.Line.{line-fine}
 use borrow.Author.Needs.{needs}
 use Rattle.patch.proofs.table.mend_line.Statement.{statement}
 use Rattle.patch.proofs.table.mend_line.Tie as tie

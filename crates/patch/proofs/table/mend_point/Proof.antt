@@ -6,8 +6,9 @@ use Rattle.lattice.proofs.Sites.{numbers-small}
 use Rattle.ground.proofs.Points.{sited}
 use Rattle.ground.proofs.Lines.{line-stands}
 use Rattle.ground.proofs.Sites.{along-own}
-use Rattle.checks.proofs.Walk.{Room, room, line-point}
-use Rattle.patch.proofs.Site.{line-short, seven-mended}
+use Rattle.checks.proofs.Walk.{room, line-point}
+use Rattle.patch.proofs.Site.{seven-mended}
+use Rattle.patch.proofs.Line.{line-short}
 use borrow.Author.Needs.{needs}
 use Rattle.patch.proofs.table.mend_point.Statement.{statement}
 use Rattle.patch.proofs.table.mend_point.Tie as tie

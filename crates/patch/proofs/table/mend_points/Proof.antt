@@ -6,7 +6,7 @@ use Rattle.moving.specs.Label.{signs}
 use Rattle.checks.proofs.Walk.{Room, room}
 use Rattle.patch.specs.inner.Mends.{Mends, tableDue}
 use Rattle.patch.proofs.Mends.{counts, spelt, joined, few}
-use Rattle.patch.proofs.Site.{still-tabled, fine-to}
+use Rattle.patch.proofs.Line.{still-tabled, fine-to}
 use Rattle.patch.proofs.table.mend_points.Statement.{statement}
 use Rattle.patch.proofs.table.mend_points.Tie as tie
 

@@ -9,7 +9,7 @@ use Rattle.ground.proofs.Lines.{line-self, line-fits}
 use Rattle.checks.proofs.Walk.{first-line, room, next-own}
 use Rattle.patch.specs.inner.Mends.{Mends, tableDue}
 use Rattle.patch.proofs.Mends.{counts, none-yet, spelt, joined, few}
-use Rattle.patch.proofs.Site.{still-tabled}
+use Rattle.patch.proofs.Line.{still-tabled}
 use Rattle.patch.proofs.table.mend_table.Statement.{statement}
 use Rattle.patch.proofs.table.mend_table.Tie as tie
 

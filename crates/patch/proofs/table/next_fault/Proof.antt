@@ -3,7 +3,7 @@ use native.Mathlib.Omega.{arith}
 use Rattle.moving.specs.Label.{signs}
 use Rattle.checks.proofs.Faults.{fine-of, gap-of, stray-of}
 use Rattle.checks.proofs.Search.{upto}
-use Rattle.patch.proofs.Site.{in-line, to-fault}
+use Rattle.patch.proofs.Line.{in-line, to-fault}
 use borrow.Author.Needs.{needs}
 use Rattle.patch.proofs.table.next_fault.Statement.{statement}
 use Rattle.patch.proofs.table.next_fault.Tie as tie
