@@ -64,8 +64,9 @@ site-fault-requires c κs =
     let in-loop = c .before .before in
     let at-length = in-loop .before .before in
     let at-start = at-length .before .before in
+    let long = at-length .line-length .ensures .0 in
     let t = at-start .pre .0 in (
-      line-point (t .sized) (at-start .pre .1 .0) (at-length .line-length .ensures .0) (t .samples-long) (in-loop .loop-test .taken) (c .along .ensures),
+      line-point (t .sized) (at-start .pre .1 .0) long (t .samples-long) (in-loop .loop-test .taken) (c .along .ensures),
       simp (length-take, length-drop) (omega (arith, t .cuts-long)),
     )
 
