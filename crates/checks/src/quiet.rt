@@ -46,7 +46,7 @@ pub fn is_quiet(s: Sizes, samples: &[i16], bytes: &[u8], q: Site) -> bool
     if far[2] < samples.len() {
         if far[3] < samples.len() {
             if is_calm(samples, q.own, far) {
-                return ranges::is_blank(bytes, 0, 7);
+                return ranges::are_zero(bytes, 0, 7);
             }
         }
     }

@@ -1,5 +1,6 @@
 pub mod Labels
 pub mod Folds
+pub mod Eights
 pub mod Points
 pub mod Lines
 pub mod Sites

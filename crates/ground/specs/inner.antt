@@ -1,3 +1,4 @@
+pub mod Blank
 pub mod Labels
 pub mod Lines
 pub mod Strides

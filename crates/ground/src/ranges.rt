@@ -1,5 +1,6 @@
 // Whole ranges of a table, tested at once: no test ends early, so that the compiler takes many
 // entries in one step. A range may go past the table's end: what is not there counts as zero.
+use crate::joint;
 use crate::label;
 ghost use mathlib.Core.Path.{_≡_};
 ghost use mathlib.Core.Bool.{true, false};
@@ -7,6 +8,7 @@ ghost use Prim.Native.Nat.{ℕ, _<_, _≤_};
 ghost use lib.IntN.{pos};
 ghost use lib.ListN.{length, getD};
 ghost use Rattle.lattice.specs.inner.Site.{most};
+ghost use Rattle.ground.specs.inner.Blank.{Blank};
 ghost use Rattle.ground.specs.inner.Labels.{hasLabel};
 
 fn lesser(a: usize, b: usize) -> usize
@@ -15,9 +17,9 @@ fn lesser(a: usize, b: usize) -> usize
     if a < b { a } else { b }
 }
 
-// All bytes from one on and before another are zero: the highest is.
-pub fn is_blank(bytes: &[u8], from: usize, to: usize) -> bool
-    ensures { λ r. ⌜ (r ≡ true → (o : ℕ) → from ≤ o → o < to → getD (now (bytes .entry)) o 0 ≡ 0) ⌝ }
+// All bytes from one on and before another are zero, each looked at by itself: the highest is.
+pub fn are_zero(bytes: &[u8], from: usize, to: usize) -> bool
+    ensures { λ r. ⌜ (r ≡ true → Blank (now (bytes .entry)) from to) ⌝ }
 {
     let end = lesser(to, bytes.len());
     let mut top: u8 = 0;
@@ -28,6 +30,26 @@ pub fn is_blank(bytes: &[u8], from: usize, to: usize) -> bool
         }
     }
     top == 0
+}
+
+// All bytes from one on and before another are zero: eight together by the joint test, and what is
+// left over by itself.
+pub fn is_blank(bytes: &[u8], from: usize, to: usize) -> bool
+    ensures { λ r. ⌜ (r ≡ true → Blank (now (bytes .entry)) from to) ⌝ }
+{
+    let end = lesser(to, bytes.len());
+    if end <= from {
+        return true;
+    }
+    let eights = (end - from) / 8;
+    let mut seen: u64 = 0;
+    for k in 0..eights {
+        seen = seen | joint::eight(bytes, from + 8 * k);
+    }
+    if seen != 0 {
+        return false;
+    }
+    are_zero(bytes, from + 8 * eights, to)
 }
 
 // The highest sample from one on and before another, or 0 if none is above zero: where it is not

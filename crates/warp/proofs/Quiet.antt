@@ -5,7 +5,7 @@ use mathlib.Core.Path.{_≡_, refl, sym, ap, subst, _∙_}
 use mathlib.Core.Logic.{inl, inr}
 use mathlib.Core.Bool.{false}
 use mathlib.Core.List.{List, [], _∷_}
-use lib.ListN.{getD}
+use lib.ListN.{length, getD, List·getD-eq-default}
 use Rattle.basics.proofs.Test.{lt-or}
 use Rattle.lattice.specs.declared.Sizes.{Sizes}
 use Rattle.lattice.specs.declared.Near.the-variants.{At}
@@ -21,6 +21,7 @@ use Rattle.moving.specs.Nearest.{nearest}
 use Rattle.moving.specs.Reading.{Reading, cutAlong, violationBy}
 use Rattle.moving.specs.Moving.{choice}
 use Rattle.moving.proofs.Nearest.{nearest-none}
+use Rattle.ground.specs.inner.Blank.{Blank}
 use Rattle.ground.specs.inner.Lines.{Line, lineAt}
 use Rattle.ground.specs.inner.Strides.{startsAt, rangeMost}
 use Rattle.ground.proofs.Points.{sited}
@@ -36,6 +37,13 @@ pub bare-stays : (m : Reading) (codes : List ℕ) (p : ℕ) → Bare (m .sizes) 
 unfolding violation
 bare-stays m codes p b =
     guess-none m codes p (λ c. 0) (λ c k q e. sym (b .none c k q e)) (nearest-none (λ c. violation (m .rule) c 0) 14 (λ c l u. refl))
+
+-- no point has a cut, where all bytes of the table are zero
+pub bare-table : (s : Sizes) (cuts : List ℕ) (p : ℕ) → Blank cuts 0 (length cuts) → Bare s cuts p
+bare-table s cuts p z = record { none = λ c k q e. byte (edgeByte p c q) }
+  where
+    byte : (o : ℕ) → getD cuts o 0 ≡ 0
+    byte o = elim (lt-or o (length cuts)) [ inl u ↦ z o (omega arith) u | inr u ↦ List·getD-eq-default cuts 0 u ]
 
 -- fourteen bytes that are zero: seven of edges that start at the point, seven of edges that end there
 module _ (s : Sizes) (cuts : List ℕ) (q : Site) (h : Sized s) (g : Sited s q) where

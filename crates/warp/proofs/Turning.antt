@@ -17,11 +17,12 @@ use Rattle.moving.proofs.Turns.{turn-still, turn-moves}
 use Rattle.moving.proofs.Moved.{outset-at, stateAt-long, stateAt-suc, stateAt-ahead}
 use Rattle.moving.proofs.Choice.{choice-sound}
 use Rattle.filling.specs.Fill.{movedCount}
+use Rattle.ground.specs.inner.Blank.{Blank}
 use Rattle.ground.specs.inner.Lines.{Line}
 use Rattle.ground.proofs.Lines.{line-own, line-fits}
 use Rattle.warp.specs.inner.Quick.{Bare}
 use Rattle.warp.proofs.Counted.{counted-move, counted-few, counted-none}
-use Rattle.warp.proofs.Quiet.{bare-stays}
+use Rattle.warp.proofs.Quiet.{bare-stays, bare-table}
 
 -- one zero more
 pub zeros-more : (t : List ℕ) (p : ℕ) → p < length t → take p t ≡ replicate p 0 → take (p + 1) (set t p 0) ≡ replicate (p + 1) 0
@@ -122,11 +123,26 @@ module _ (m : Reading) where
     pub line : p < n → Line (m .sizes) p q
 
   -- none has, and the table is all zeros
-  pub warped-starts : {n : ℕ} {state : List ℕ} {q : Site} → state ≡ replicate (points (m .sizes)) 0 → Line (m .sizes) 0 q
-      → Warped n state q 0 0
-  unfolding outset stateAt moveBy from
-  warped-starts e l =
-      record { high = omega arith; is = e; counted = sym (counted-none m) ∙ ap movedCount (sym e); line = λ h. l }
+  module _ {state : List ℕ} (e : state ≡ replicate (points (m .sizes)) 0) where
+    none-yet : state ≡ stateAt m 0
+    unfolding outset stateAt moveBy from
+    none-yet = e
+
+    none-counted : 0 ≡ movedCount state
+    unfolding outset
+    none-counted = sym (counted-none m) ∙ ap movedCount (sym e)
+
+    pub warped-starts : {n : ℕ} {q : Site} → Line (m .sizes) 0 q → Warped n state q 0 0
+    warped-starts l = record { high = omega arith; is = none-yet; counted = none-counted; line = λ h. l }
+
+    -- without a cut none will
+    pub warped-never : Blank (m .cuts) 0 (length (m .cuts)) → (state ≡ stateOf m) × (0 ≡ movedCount (stateOf m))
+    warped-never z = (is, none-counted ∙ ap movedCount is)
+      where
+        is : state ≡ stateOf m
+        is =
+            let e : 0 + points (m .sizes) ≡ points (m .sizes) = omega arith in
+            none-yet ∙ sym (bare-passed 0 (points (m .sizes)) (λ x l. bare-table (m .sizes) (m .cuts) (0 + x) z)) ∙ ap (stateAt m) e
 
   -- after a line: its points have had their turns too
   pub record Passed (p : ℕ) (state : List ℕ) (moved : ℕ) : Type 0 where

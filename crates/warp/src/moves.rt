@@ -1,6 +1,7 @@
 // Which points move, and by which code.
 use crate::bytes;
 use ground::label;
+use ground::ranges;
 use ground::violation;
 use ground::walk;
 use lattice::Near;
@@ -148,8 +149,9 @@ fn clear(state: &mut [u8])
     }
 }
 
-// Points are taken once each, in ascending number, a line at a time, and move in place. Most lines
-// are far from any cut. The answer counts the points that move.
+// Points are taken once each, in ascending number, a line at a time, and move in place. Where there
+// is no cut at all none moves, and most lines are far from any cut. The answer counts the points
+// that move.
 pub fn warp(s: Sizes, band: u32, samples: &[i16], cuts: &[u8], state: &mut [u8]) -> usize
     requires { ⌜ Tabled (blockOf s (now samples) (now cuts)) ⌝ }
     requires { ⌜ length (now state) ≡ points s ⌝ }
@@ -157,6 +159,9 @@ pub fn warp(s: Sizes, band: u32, samples: &[i16], cuts: &[u8], state: &mut [u8])
     ensures { λ r. ⌜ r ≡ movedCount (stateOf (readingOf band (blockOf s (now (samples .entry)) (now (cuts .entry))))) ⌝ }
 {
     clear(state);
+    if ranges::is_blank(cuts, 0, cuts.len()) {
+        return 0;
+    }
     let n = counts::point_count(s);
     let mut q = numbers::locate(s, 0);
     let mut moved: usize = 0;

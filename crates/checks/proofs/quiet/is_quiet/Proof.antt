@@ -23,8 +23,8 @@ is-calm-requires c κs =
     let a = at-start .pre .0 in
     (asked-in a, ends-in (at-start .args .q) (a .sized) (at-ends .ahead .ensures) (c .before .if1 .taken) (c .if2 .taken))
 
-is-blank-requires : tie.Need-is-blank-requires
-is-blank-requires c κs = search needs
+are-zero-requires : tie.Need-are-zero-requires
+are-zero-requires c κs = search needs
 
 returns : tie.Need-returns
 returns c =
@@ -33,7 +33,7 @@ returns c =
     let at-start = at-ends .before .before in
     let a = at-start .pre .0 in
     λ t. calm-fine (a .sized) (a .sited) (at-ends .ahead .ensures) (at-calm .is-calm .ensures (c .before .if3 .taken))
-    (at-start .args .bytes .now) (c .is-blank .ensures t)
+    (at-start .args .bytes .now) (c .are-zero .ensures t)
 
 returns-2 : tie.Need-returns-2
 returns-2 c = λ t. absurd (subst T (sym t) tt)
@@ -52,7 +52,7 @@ is-quiet-spec =
     array-read-if1
     array-read-if2
     is-calm-requires
-    is-blank-requires
+    are-zero-requires
     returns
     returns-2
     returns-3

@@ -3,7 +3,7 @@ use Prim.Native.Nat.{ℕ, _-_}
 use native.Mathlib.Omega.{arith}
 use mathlib.Core.Path.{refl, sym, ap, _∙_}
 use mathlib.Core.Logic.{⊎-elim}
-use lib.ListN.{replicate}
+use lib.ListN.{length, replicate, length-replicate}
 use borrow.Author.Tests.{not-false}
 use Rattle.lattice.proofs.Bounds.{points-small}
 use Rattle.moving.specs.Block.{blockOf, readingOf}
@@ -12,6 +12,7 @@ use Rattle.ground.proofs.Lines.{line-own, line-first}
 use Rattle.warp.proofs.Turning.{
   Warped,
   warped-starts,
+  warped-never,
   warped-line,
   warped-state,
   warped-fits,
@@ -35,17 +36,30 @@ abbrev μ-loop : tie.MeasureT-loop
 clear-requires : tie.Need-clear-requires Inv-loop μ-loop
 clear-requires c κs = search needs
 
+is-blank-requires : tie.Need-is-blank-requires Inv-loop μ-loop
+is-blank-requires c κs = search needs
+
+same-length : tie.Need-same-length Inv-loop μ-loop
+same-length c = ap length (c .before .before .before .before .clear .ensures) ∙ length-replicate _ _
+
+returns : tie.Need-returns Inv-loop μ-loop
+returns c =
+    let at-clear = c .before .before .before .before in
+    let at-start = at-clear .before .before .before .before in
+    let zeros = at-clear .clear .ensures ∙ ap (λ (n : ℕ). replicate n 0) (at-start .pre .1) in
+    warped-never _ zeros (c .before .is-blank .ensures (c .if1 .taken))
+
 point-count-requires : tie.Need-point-count-requires Inv-loop μ-loop
-point-count-requires c κs = c .before .before .before .before .before .before .pre .0 .sized
+point-count-requires c κs = c .before .before .before .before .before .before .before .before .pre .0 .sized
 
 locate-requires : tie.Need-locate-requires Inv-loop μ-loop
 locate-requires c κs =
-    let at-start = c .before .before .before .before .before .before .before in
+    let at-start = c .before .before .before .before .before .before .before .before .before in
     (at-start .pre .0 .sized, points-some (at-start .args .s) (at-start .pre .0 .sized))
 
 loop-holds : tie.Need-loop-holds Inv-loop μ-loop
 loop-holds c =
-    let at-clear = c .before .before .before .before in
+    let at-clear = c .before .before .before .before .before .before in
     let at-start = at-clear .before .before .before .before in
     let zeros = at-clear .clear .ensures ∙ ap (λ (n : ℕ). replicate n 0) (at-start .pre .1) in
     warped-starts _ zeros (line-first (at-start .pre .0 .sized) (c .locate .ensures))
@@ -53,14 +67,14 @@ loop-holds c =
 is-bare-line-requires : tie.Need-is-bare-line-requires Inv-loop μ-loop
 is-bare-line-requires c κs =
     let at-loop = c .before in
-    let at-start = at-loop .before .before .before .before .before .before .before .before .before in
+    let at-start = at-loop .before .before .before .before .before .before .before .before .before .before .before in
     (at-start .pre .0 .sized, warped-line _ (at-loop .loop .inv) (c .loop-test .taken))
 
 warp-line-requires : tie.Need-warp-line-requires Inv-loop μ-loop
 warp-line-requires c κs =
     let at-test = c .before .before .before in
     let at-loop = at-test .before in
-    let at-start = at-loop .before .before .before .before .before .before .before .before .before in
+    let at-start = at-loop .before .before .before .before .before .before .before .before .before .before .before in
     let w = at-loop .loop .inv in
     let h = at-test .loop-test .taken in
     (at-start .pre .0, (warped-line _ w h, warped-state _ w h))
@@ -68,19 +82,19 @@ warp-line-requires c κs =
 add-moved : tie.Need-add-moved Inv-loop μ-loop
 add-moved c =
     let at-loop = c .before .before .before .before .before .before .before in
-    let at-start = at-loop .before .before .before .before .before .before .before .before .before in
+    let at-start = at-loop .before .before .before .before .before .before .before .before .before .before .before in
     let e = c .before .before .warp-line .ensures in
     omega (arith, warped-few _ (at-loop .loop .inv) _ _ (e .0) (e .1), points-small (at-start .args .s) (at-start .pre .0 .sized))
 
 line-length-requires : tie.Need-line-length-requires Inv-loop μ-loop
 line-length-requires c κs =
-    c .before .before .before .before .before .before .before .before .before .before .before .before .pre .0 .sized
+    c .before .before .before .before .before .before .before .before .before .before .before .before .before .before .pre .0 .sized
 
 add-p : tie.Need-add-p Inv-loop μ-loop
 add-p c =
     let at-loop = c .before .before .before .before in
     let at-count = at-loop .before .before in
-    let at-start = at-count .before .before .before .before .before .before .before in
+    let at-start = at-count .before .before .before .before .before .before .before .before .before in
     let small = points-small (at-start .args .s) (at-start .pre .0 .sized) in
     omega (arith, small, at-count .point-count .ensures, c .line-length .ensures .1)
 
@@ -90,12 +104,12 @@ next-line-requires c κs =
     let at-test = at-length .before .before .before in
     let at-loop = at-test .before in
     let at-count = at-loop .before .before in
-    let at-start = at-count .before .before .before .before .before .before .before in
+    let at-start = at-count .before .before .before .before .before .before .before .before .before in
     let w = at-loop .loop .inv in
     let h = at-test .loop-test .taken in
     let line = warped-line _ w h in
     let len = at-length .line-length .ensures .0 in
-    (at-start .pre .0 .sized, (line, omega (arith, line-own (w .line h), at-count .point-count .ensures, c .if2 .taken)))
+    (at-start .pre .0 .sized, (line, omega (arith, line-own (w .line h), at-count .point-count .ensures, c .if3 .taken)))
 
 loop-less : tie.Need-loop-less Inv-loop μ-loop
 loop-less c =
@@ -113,8 +127,8 @@ loop-again c =
     let passed =
     ⊎-elim (λ v. passed-walked _ w h len (v .2 .result) (v .2 .ensures .0) (v .2 .ensures .1) (v .5) (v .6))
     (λ v. passed-bare _ w h len (at-bare .is-bare-line .ensures (not-false _ (v .0 .left))) (v .1) (v .2))
-    (at-length .before .if1 .came) in
-    warped-next _ w h len passed refl (omega (arith, c .before .if2 .taken)) (λ u. c .next-line .ensures)
+    (at-length .before .if2 .came) in
+    warped-next _ w h len passed refl (omega (arith, c .before .if3 .taken)) (λ u. c .next-line .ensures)
 
 loop-less-2 : tie.Need-loop-less-2 Inv-loop μ-loop
 loop-less-2 c =
@@ -127,25 +141,25 @@ loop-again-2 c =
     let at-test = at-bare .before in
     let at-loop = at-test .before in
     let at-count = at-loop .before .before in
-    let at-start = at-count .before .before .before .before .before .before .before in
+    let at-start = at-count .before .before .before .before .before .before .before .before .before in
     let w = at-loop .loop .inv in
     let h = at-test .loop-test .taken in
     let len = at-length .line-length .ensures .0 in
     let passed =
     ⊎-elim (λ v. passed-walked _ w h len (v .2 .result) (v .2 .ensures .0) (v .2 .ensures .1) (v .5) (v .6))
     (λ v. passed-bare _ w h len (at-bare .is-bare-line .ensures (not-false _ (v .0 .left))) (v .1) (v .2))
-    (at-length .before .if1 .came) in
+    (at-length .before .if2 .came) in
     let fits = warped-fits _ w h len (at-start .pre .0 .sized) (at-count .point-count .ensures) in
-    warped-next _ w h len passed refl fits (λ u. absurd (omega (arith, c .if2 .left)))
+    warped-next _ w h len passed refl fits (λ u. absurd (omega (arith, c .if3 .left)))
 
-same-length : tie.Need-same-length Inv-loop μ-loop
-same-length c =
+same-length-2 : tie.Need-same-length-2 Inv-loop μ-loop
+same-length-2 c =
     let at-loop = c .before in
-    let at-start = at-loop .before .before .before .before .before .before .before .before .before in
+    let at-start = at-loop .before .before .before .before .before .before .before .before .before .before .before in
     warped-long _ (at-loop .loop .inv) ∙ sym (at-start .pre .1)
 
-returns : tie.Need-returns Inv-loop μ-loop
-returns c =
+returns-2 : tie.Need-returns-2 Inv-loop μ-loop
+returns-2 c =
     let at-loop = c .before in
     warped-whole _ (at-loop .loop .inv) (c .loop-test .left) (at-loop .before .before .point-count .ensures)
 
@@ -156,6 +170,9 @@ warp-spec =
     Inv-loop
     μ-loop
     clear-requires
+    is-blank-requires
+    same-length
+    returns
     point-count-requires
     locate-requires
     loop-holds
@@ -169,5 +186,5 @@ warp-spec =
     loop-again
     loop-less-2
     loop-again-2
-    same-length
-    returns)
+    same-length-2
+    returns-2)
