@@ -6,11 +6,15 @@
 //! cut-byte tests go on reading raw samples". So both tests want the labels of
 //! band 0, which are the raw signs.
 //!
-//! Everything goes line by line; a line or a point whose bytes must all be
-//! zero is tested as a group. Since every cut byte is looked at here, every
-//! point is marked on the way with the nearest cut that violates it
-//! ([`crate::mark`]), be it live or not, and moving need only search where that
-//! cut is not live.
+//! Everything goes line by line. The bytes of a line of which no edge must be
+//! cut must all be zero, and are tested by eights, as request F-5 says: "test
+//! them together and look closer only if one is not". On the other lines each
+//! point is tested by itself; if none of its edges must be cut, its seven bytes
+//! are tested together.
+//!
+//! Since every cut byte is looked at here, every point is marked on the way
+//! with the nearest cut that violates it ([`crate::mark`]), be it live or not,
+//! and moving need only search where that cut is not live.
 
 use crate::mark::{MARKS, UNMARKED};
 use crate::refusal;
@@ -69,11 +73,11 @@ pub fn test_cuts(grids: &Grids, labels: &[u8], cuts: &[u8]) -> Result<Vec<u32>, 
         let mut needs = [0; LONGEST_LINE];
         let needs = &mut needs[..line.count()];
         find_needs(&line, &reaches, labels, needs);
-        if any_bit(needs) {
+        if all_zero(needs) {
+            test_empty(bytes, 7 * line.first)?;
+        } else {
             marks.resize(labels.len(), UNMARKED);
             test_line(&line, &reaches, needs, bytes, &mut marks)?;
-        } else if any_bit(bytes) {
-            return Err(stray_among(bytes, 7 * line.first));
         }
     }
     Ok(marks)
@@ -95,9 +99,39 @@ fn find_needs(line: &Line, reaches: &[Reach; 7], labels: &[u8], needs: &mut [u8]
     }
 }
 
-/// Whether one of the bytes is not zero.
-pub fn any_bit(bytes: &[u8]) -> bool {
-    bytes.iter().fold(0, |all, byte| all | byte) != 0
+/// The joint test of eight bytes: "passes exactly when all eight are zero".
+pub fn eight_zero(eight: &[u8; 8]) -> bool {
+    u64::from_ne_bytes(*eight) == 0
+}
+
+/// Whether all of the bytes are zero. They go by eights, and what is left over
+/// at the end is tested by itself.
+///
+/// The eights are laid one upon the other, and the joint test takes what comes
+/// of them. That is faster than to take them in turn and leave at the first
+/// that does not pass, which is a rare one.
+pub fn all_zero(bytes: &[u8]) -> bool {
+    let (eights, rest) = bytes.as_chunks();
+    eight_zero(&overlaid(eights)) && rest.iter().all(|&byte| byte == 0)
+}
+
+/// Eights laid one upon the other: a bit is set if it is set in any of them.
+fn overlaid(eights: &[[u8; 8]]) -> [u8; 8] {
+    let words = eights.iter().map(|&eight| u64::from_ne_bytes(eight));
+    words.fold(0, |all, word| all | word).to_ne_bytes()
+}
+
+/// Tests a range of bytes, of which the first has this offset, that must all be
+/// zero; looks closer, for the lowest one that is not, only if there is one.
+fn test_empty(bytes: &[u8], first_offset: usize) -> Result<(), WrongByte> {
+    if all_zero(bytes) {
+        return Ok(());
+    }
+    let index = bytes.iter().position(|&byte| byte != 0);
+    Err(WrongByte {
+        number: refusal::STRAY,
+        offset: first_offset + index.expect("a byte that is not zero"),
+    })
 }
 
 /// Tests the bytes of one line's points against their needs.
@@ -108,24 +142,30 @@ fn test_line(
     bytes: &[u8],
     marks: &mut [u32],
 ) -> Result<(), WrongByte> {
-    let (sevens, _) = bytes.as_chunks::<7>();
+    let (sevens, _) = bytes.as_chunks();
     for (index, (&need, seven)) in needs.iter().zip(sevens).enumerate() {
         if need == 0 && *seven == [0; 7] {
             continue;
         }
         let point = line.first + index;
-        let cut = bits_of_cuts(seven);
-        if cut != need {
-            let direction = (cut ^ need).trailing_zeros() as usize;
-            let is_gap = need >> direction & 1 != 0;
-            return Err(WrongByte {
-                number: if is_gap { refusal::GAP } else { refusal::STRAY },
-                offset: 7 * point + direction,
-            });
-        }
+        test_point(point, need, seven)?;
         mark_violated(point, reaches, need, seven, marks);
     }
     Ok(())
+}
+
+/// Tests the seven bytes of one point against its need.
+fn test_point(point: usize, need: u8, seven: &[u8; 7]) -> Result<(), WrongByte> {
+    let cut = bits_of_cuts(seven);
+    if cut == need {
+        return Ok(());
+    }
+    let direction = (cut ^ need).trailing_zeros() as usize;
+    let is_gap = need >> direction & 1 != 0;
+    Err(WrongByte {
+        number: if is_gap { refusal::GAP } else { refusal::STRAY },
+        offset: 7 * point + direction,
+    })
 }
 
 /// Bit d is set if byte d is a cut.
@@ -146,13 +186,4 @@ fn mark_violated(point: usize, reaches: &[Reach; 7], need: u8, seven: &[u8; 7], 
         left &= left - 1;
     }
     marks[point] = own;
-}
-
-/// The refusal of the first non-zero byte among some that must all be zero.
-fn stray_among(bytes: &[u8], first_offset: usize) -> WrongByte {
-    let index = bytes.iter().position(|&byte| byte != 0);
-    WrongByte {
-        number: refusal::STRAY,
-        offset: first_offset + index.expect("a byte that is not zero"),
-    }
 }

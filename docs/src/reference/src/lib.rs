@@ -1,6 +1,6 @@
 //! An independent reference implementation of document 01, "Stuffing a
 //! scanned block with tetrahedra" (uniform isosurface stuffing), and of
-//! requests F-1 to F-4 of document 02, "Customer requests after the base".
+//! requests F-1 to F-5 of document 02, "Customer requests after the base".
 //!
 //! It was written from these documents, the paper that document 01 cites and
 //! IEEE 754 alone, to be compared with another implementation: in its answers

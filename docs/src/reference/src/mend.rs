@@ -7,12 +7,13 @@
 //!
 //! Only groups of eight points with an edge that must be cut are looked at
 //! byte by byte ([`crate::bits`]). What lies between two of them, often the
-//! bytes of many lines, must all be zero and is cleared in wide steps. If the
-//! samples are all of one sign, that is the whole table. Otherwise there is one
-//! buffer, of 32 bytes for each line.
+//! bytes of many lines, must all be zero; it is tested by eights ([`all_zero`],
+//! request F-5) and cleared in wide steps. If the samples are all of one sign,
+//! that is the whole table. Otherwise there is one buffer, of 32 bytes for each
+//! line.
 
 use crate::bits::{cuts_of_group, needs_of_group, needs_of_line, Signs, GROUP};
-use crate::bytes::any_bit;
+use crate::bytes::all_zero;
 use crate::lattice::Lattice;
 use crate::refusal;
 use crate::strides::{Grids, Line, Reach};
@@ -148,7 +149,7 @@ impl Table<'_> {
     /// Clears the bytes from where the table is mended up to this offset.
     fn clear_up_to(&mut self, offset: usize) {
         for piece in self.cuts[self.done..offset].chunks_mut(PIECE) {
-            if any_bit(piece) {
+            if !all_zero(piece) {
                 self.cleared += count_cuts(piece);
                 piece.fill(0);
             }

@@ -1,5 +1,5 @@
-//! One call made with both fillings, for `tests/agreement.rs` and
-//! `tests/band.rs`.
+//! One call made with both fillings, for `tests/agreement.rs`, `tests/band.rs`
+//! and `tests/stray.rs`.
 
 use reference::damage::{Call, Outcome};
 use reference::fill::fill;
