@@ -2,7 +2,7 @@
 --     ends-in         candidates in the table
 --     calm-none       no candidate is opposed: no edge crosses
 --     calm-fine       with bytes that are all zero a point's seven bytes are fine
---     level-fine      the same for a line whose five ranges are level
+--     level-fine      the same for a part of a line whose five ranges are level
 --     covers          the five ranges hold all candidates
 use Prim.Native.Nat.{ℕ, _+_, _*_, _-_, _/_, _%_, _≤_, _<_}
 use native.Mathlib.Nat.{le-mul-of-pos-right}
@@ -24,6 +24,7 @@ use Rattle.moving.specs.declared.Label.{Label}
 use Rattle.moving.specs.Label.{signs, labels}
 use Rattle.moving.proofs.Band.{labels-raw}
 use Rattle.filling.specs.Check.{crosses, cutFault}
+use Rattle.ground.specs.inner.Blank.{Blank}
 use Rattle.ground.specs.inner.Lines.{Line, lineAt}
 use Rattle.ground.specs.inner.Labels.{hasLabel}
 use Rattle.ground.specs.inner.Strides.{endsOf, endsAt, rangeMost}
@@ -31,7 +32,7 @@ use Rattle.ground.proofs.Labels.{both-lack}
 use Rattle.ground.proofs.Points.{sited}
 use Rattle.ground.proofs.Lines.{line-stands, line-at}
 use Rattle.ground.proofs.FarEnds.{line-fits-across, site-numbers}
-use Rattle.checks.specs.inner.Faults.{PointFine, LineFine, crossingsAt}
+use Rattle.checks.specs.inner.Faults.{PointFine, PartFine, crossingsAt}
 use Rattle.checks.specs.inner.Glance.{Calm, Level, Held, Covers}
 use Rattle.checks.proofs.Faults.{none-at, byte-fine, crossing-at}
 use Rattle.checks.proofs.Edges.{calm-crosses}
@@ -78,24 +79,27 @@ ends-on s q g x d i = go (q .kind) refl
         by-direction (λ d. getD (endsOf Centre s (lineAt q x)) d 0 ≡ getD (endsOf Centre s q) d 0 + x)
         (omega arith) (omega arith) (omega arith) (omega arith) (omega arith) (omega arith) (omega arith) d i
 
--- the point of index x in a line whose five ranges lack the sign, and whose bytes are all zero
-module _ {s : Sizes} {samples : List ℤ} {q : Site} (h : Sized s) (l : Line s (q .own) q) {plus : Bool} {starts : List ℕ} {m : ℕ}
-    (v : Covers (q .own) (endsAt s q) starts) (e : m ≡ grid s (q .kind) along-x) (w : Level plus samples starts m) where
+-- the points of index f on and before e in a line whose five ranges lack the sign, and whose bytes are all zero
+module _ {s : Sizes} {samples : List ℤ} {q : Site} (h : Sized s) (l : Line s (q .own) q) {plus : Bool} {starts : List ℕ} (f e : ℕ) {n : ℕ}
+    (v : Covers (q .own + f) (endsAt s (lineAt q f)) starts) (c : e ≤ f + n) (g : e ≤ grid s (q .kind) along-x)
+    (w : Level plus samples starts n) where
   abbrev Unsigned : ℕ → Type 0
   Unsigned p = hasLabel plus 0 (getD samples p (pos 0)) ≡ false
 
-  module _ (x : ℕ) (i : x < m) where
+  module _ (x : ℕ) (i : f ≤ x) (j : x < e) where
     self-unsigned : Unsigned (q .own + x)
     self-unsigned =
-        ap (λ (p : ℕ). hasLabel plus 0 (getD samples (p + x) (pos 0))) (sym (v .self)) ∙ w .none 0 (omega arith) x (omega arith)
+        let p : q .own + x ≡ getD starts 0 0 + (x - f) = omega (arith, v .self) in
+        ap (λ (p : ℕ). hasLabel plus 0 (getD samples p (pos 0))) p ∙ w .none 0 (omega arith) (x - f) (omega arith)
 
     end-unsigned : (d : ℕ) → d < 7 → Unsigned (getD (endsAt s (lineAt q x)) d 0)
-    end-unsigned d j =
-        let r = v .each d j in
-        let y = getD (endsAt s q) d 0 - getD starts (r .range) 0 + x in
-        let f : getD (endsAt s (lineAt q x)) d 0 ≡ getD starts (r .range) 0 + y
-        = omega (arith, ends-on s q (sited (line-stands l)) x d j, r .from) in
-        ap (λ (p : ℕ). hasLabel plus 0 (getD samples p (pos 0))) f ∙ w .none (r .range) (r .is-range) y (omega (arith, r .to))
+    end-unsigned d k =
+        let r = v .each d k in
+        let y = getD (endsAt s (lineAt q f)) d 0 - getD starts (r .range) 0 + (x - f) in
+        let at-x = ends-on s q (sited (line-stands l)) x d k in
+        let at-f = ends-on s q (sited (line-stands l)) f d k in
+        let p : getD (endsAt s (lineAt q x)) d 0 ≡ getD starts (r .range) 0 + y = omega (arith, at-x, at-f, r .from) in
+        ap (λ (p : ℕ). hasLabel plus 0 (getD samples p (pos 0))) p ∙ w .none (r .range) (r .is-range) y (omega (arith, r .to))
 
     level-calm : Calm (signs samples) (q .own + x) (endsAt s (lineAt q x))
     unfolding labels
@@ -103,20 +107,19 @@ module _ {s : Sizes} {samples : List ℤ} {q : Site} (h : Sized s) (l : Line s (
         subst (λ (label : ℕ → Label). Calm label (q .own + x) (endsAt s (lineAt q x))) (labels-raw samples) calm
       where
         calm : Calm (labels 0 samples) (q .own + x) (endsAt s (lineAt q x))
-        calm = record { none = λ d j. both-lack plus 0 _ _ self-unsigned (end-unsigned d j) }
+        calm = record { none = λ d k. both-lack plus 0 _ _ self-unsigned (end-unsigned d k) }
 
     level-none : (d : ℕ) → d < 7 → crosses s (signs samples) (q .own + x) d ≡ false
     level-none = calm-none h (sited (line-at l x (omega arith))) level-calm
 
-  pub level-fine : (cuts : List ℕ) → ((o : ℕ) → 7 * q .own ≤ o → o < 7 * (q .own + m) → getD cuts o 0 ≡ 0)
-      → LineFine s (signs samples) cuts q
+  pub level-fine : (cuts : List ℕ) → Blank cuts (7 * (q .own + f)) (7 * (q .own + e)) → PartFine s (signs samples) cuts q f e
   level-fine cuts z = record { is = at }
     where
-      at : (o : ℕ) → 7 * q .own ≤ o → o < 7 * (q .own + grid s (q .kind) along-x) → cutFault s (signs samples) cuts o ≡ 0
+      at : (o : ℕ) → 7 * (q .own + f) ≤ o → o < 7 * (q .own + e) → cutFault s (signs samples) cuts o ≡ 0
       at o a b =
-          let f : o / 7 ≡ q .own + (o / 7 - q .own) = omega arith in
-          let n = level-none (o / 7 - q .own) (omega arith) (o % 7) (omega arith) in
-          byte-fine s (signs samples) cuts o (ap (λ (p : ℕ). crosses s (signs samples) p (o % 7)) f ∙ n) (z o a (omega arith))
+          let p : o / 7 ≡ q .own + (o / 7 - q .own) = omega arith in
+          let n = level-none (o / 7 - q .own) (omega arith) (omega arith) (o % 7) (omega arith) in
+          byte-fine s (signs samples) cuts o (ap (λ (p : ℕ). crosses s (signs samples) p (o % 7)) p ∙ n) (z o a b)
 
 -- where the five ranges start
 module _ (s : Sizes) (q : Site) where

@@ -24,9 +24,12 @@ module _ {A : Type 0} {f : ℕ → A} {v : A} where
   pub one-more : {a e : ℕ} → Throughout f v a e → f e ≡ v → Throughout f v a (e + 1)
   one-more w h = joined w (record { is = λ j l u. ap f (omega arith) ∙ h })
 
-  -- the same up to an end that is spelt otherwise
+  -- the same in a part, or between ends that are spelt otherwise
+  pub within : {a b e z : ℕ} → a ≤ b → z ≤ e → Throughout f v a e → Throughout f v b z
+  within g h w = record { is = λ j l u. w .is j (omega arith) (omega arith) }
+
   pub upto : {a e z : ℕ} → z ≤ e → Throughout f v a e → Throughout f v a z
-  upto h w = record { is = λ j l u. w .is j l (omega arith) }
+  upto = within (omega arith)
 
 module _ {f : ℕ → Bool} where
   pub here : {a e r : ℕ} → a ≤ r → r < e → f r ≡ true → Throughout f false a r → FirstIn f a e r

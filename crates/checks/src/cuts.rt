@@ -3,6 +3,7 @@ use crate::Fault;
 use crate::crossing;
 use crate::quiet;
 use crate::seven;
+use ground::ranges;
 use ground::walk;
 use lattice::Site;
 use lattice::Sizes;
@@ -16,7 +17,7 @@ ghost use Rattle.lattice.specs.Counts.{grid};
 ghost use Rattle.moving.specs.Block.{blockOf, Tabled};
 ghost use Rattle.moving.specs.Label.{signs};
 ghost use Rattle.ground.specs.inner.Lines.{Line};
-ghost use Rattle.checks.specs.inner.Faults.{Asked, PointAnswered, LineAnswered, RestAnswered, CutAnswer};
+ghost use Rattle.checks.specs.inner.Faults.{Asked, PointAnswered, PartAnswered, LineAnswered, RestAnswered, CutAnswer};
 
 // The first byte at fault of a point's seven, which are lent to it. Most points need only a glance.
 fn site_fault(s: Sizes, samples: &[i16], bytes: &[u8], q: Site) -> Fault
@@ -31,17 +32,15 @@ fn site_fault(s: Sizes, samples: &[i16], bytes: &[u8], q: Site) -> Fault
     seven::point_fault(bytes, must)
 }
 
-// The first byte at fault of a line of points from one on, point by point.
-pub fn line_search(s: Sizes, samples: &[i16], cuts: &[u8], q: Site, from: usize) -> Fault
+// The first byte at fault of some points of a line, from one on and before another, point by point.
+fn part_search(s: Sizes, samples: &[i16], cuts: &[u8], q: Site, from: usize, to: usize) -> Fault
     requires { ⌜ Tabled (blockOf s (now samples) (now cuts)) ⌝ }
     requires { ⌜ Line s (q .own) q ⌝ }
-    requires { ⌜ from ≤ grid s (q .kind) along-x ⌝ }
-    ensures { λ r. ⌜ RestAnswered s (signs (now (samples .entry))) (now (cuts .entry)) q from r ⌝ }
+    requires { ⌜ (from ≤ to) × (to ≤ grid s (q .kind) along-x) ⌝ }
+    ensures { λ r. ⌜ PartAnswered s (signs (now (samples .entry))) (now (cuts .entry)) q from to r ⌝ }
 {
-    let kind = q.kind;
     let own = q.own;
-    let m = walk::line_length(s, kind);
-    for x in from..m {
+    for x in from..to {
         let a = 7 * (own + x);
         let e = a + 7;
         let found = site_fault(s, samples, &cuts[a..e], walk::along(q, x));
@@ -50,6 +49,32 @@ pub fn line_search(s: Sizes, samples: &[i16], cuts: &[u8], q: Site, from: usize)
             Fault::Gap(d) => return Fault::Gap(a + d),
             Fault::Stray(d) => return Fault::Stray(a + d),
         }
+    }
+    Fault::Fine
+}
+
+// The first byte at fault of a line of points from one on: sixteen points at a glance, and one by
+// one only where that does not do.
+pub fn line_search(s: Sizes, samples: &[i16], cuts: &[u8], q: Site, from: usize) -> Fault
+    requires { ⌜ Tabled (blockOf s (now samples) (now cuts)) ⌝ }
+    requires { ⌜ Line s (q .own) q ⌝ }
+    requires { ⌜ from ≤ grid s (q .kind) along-x ⌝ }
+    ensures { λ r. ⌜ RestAnswered s (signs (now (samples .entry))) (now (cuts .entry)) q from r ⌝ }
+{
+    let kind = q.kind;
+    let m = walk::line_length(s, kind);
+    let mut x = from;
+    while x < m {
+        let end = ranges::lesser(x + 16, m);
+        if !quiet::is_quiet_part(s, samples, cuts, q, x, end) {
+            let found = part_search(s, samples, cuts, q, x, end);
+            match found {
+                Fault::Fine => {}
+                Fault::Gap(o) => return Fault::Gap(o),
+                Fault::Stray(o) => return Fault::Stray(o),
+            }
+        }
+        x = end;
     }
     Fault::Fine
 }

@@ -1,5 +1,5 @@
-// Points with nothing to find: no edge crosses and all seven bytes are zero. Most points are so, and
-// most lines of points. Nobody asks which edges exist: the candidates for their far ends are looked
+// Points with nothing to find: no edge crosses and all seven bytes are zero. Most points are so, many
+// parts of lines and many lines. Nobody asks which edges exist: the candidates for their far ends are looked
 // at, and that some of these are no far ends does no harm.
 use crate::points;
 use ground::ranges;
@@ -11,13 +11,14 @@ ghost use mathlib.Core.Path.{_≡_};
 ghost use mathlib.Core.Bool.{true};
 ghost use Prim.Native.Nat.{ℕ, _<_, _≤_};
 ghost use lib.ListN.{length, getD};
-ghost use Rattle.lattice.specs.Counts.{Sized};
+ghost use Rattle.lattice.specs.Axis.{along-x};
+ghost use Rattle.lattice.specs.Counts.{Sized, grid};
 ghost use Rattle.lattice.specs.inner.Site.{Sited, most};
 ghost use Rattle.moving.specs.Block.{blockOf, Tabled};
 ghost use Rattle.moving.specs.Label.{signs};
 ghost use Rattle.ground.specs.inner.Lines.{Line};
 ghost use Rattle.ground.specs.inner.Strides.{endsAt, rangeMost};
-ghost use Rattle.checks.specs.inner.Faults.{Asked, PointFine, LineFine};
+ghost use Rattle.checks.specs.inner.Faults.{Asked, PointFine, PartFine, LineFine};
 ghost use Rattle.checks.specs.inner.Glance.{Calm, Covers, Level};
 
 // No sample of seven points is opposed to the point's own.
@@ -53,8 +54,8 @@ pub fn is_quiet(s: Sizes, samples: &[i16], bytes: &[u8], q: Site) -> bool
     false
 }
 
-// Where five ranges start that hold the points of a line and all candidates: those of neighbours
-// stand side by side.
+// Where five ranges start that hold the points of a line from one on and all candidates: those of
+// neighbours stand side by side.
 fn range_starts(s: Sizes, q: Site) -> [usize; 5]
     requires { ⌜ Sized s ⌝ }
     requires { ⌜ Sited s q ⌝ }
@@ -79,22 +80,31 @@ fn is_level(plus: bool, samples: &[i16], starts: [usize; 5], m: usize) -> bool
     true
 }
 
-// The bytes of a line of points are fine, at a glance: all are zero, and of the samples of the line
-// and of the candidates none is above zero, or none is below.
+// The bytes of some points of a line, from one on and before another, are fine, at a glance: all are
+// zero, and of the samples of these points and of the candidates none is above zero, or none is
+// below, as the first one has it.
+pub fn is_quiet_part(s: Sizes, samples: &[i16], cuts: &[u8], q: Site, from: usize, to: usize) -> bool
+    requires { ⌜ Tabled (blockOf s (now samples) (now cuts)) ⌝ }
+    requires { ⌜ Line s (q .own) q ⌝ }
+    requires { ⌜ (from < to) × (to ≤ grid s (q .kind) along-x) ⌝ }
+    ensures { λ r. ⌜ (r ≡ true → PartFine s (signs (now (samples .entry))) (now (cuts .entry)) q from to) ⌝ }
+{
+    let first = walk::along(q, from);
+    let own = first.own;
+    let count = to - from;
+    if !ranges::is_blank(cuts, 7 * own, 7 * (own + count)) {
+        return false;
+    }
+    let starts = range_starts(s, first);
+    is_level(!points::is_plus(samples, own), samples, starts, count)
+}
+
+// The same for a whole line.
 pub fn is_quiet_line(s: Sizes, samples: &[i16], cuts: &[u8], q: Site) -> bool
     requires { ⌜ Tabled (blockOf s (now samples) (now cuts)) ⌝ }
     requires { ⌜ Line s (q .own) q ⌝ }
     ensures { λ r. ⌜ (r ≡ true → LineFine s (signs (now (samples .entry))) (now (cuts .entry)) q) ⌝ }
 {
     let kind = q.kind;
-    let own = q.own;
-    let m = walk::line_length(s, kind);
-    if ranges::is_blank(cuts, 7 * own, 7 * (own + m)) {
-        let starts = range_starts(s, q);
-        if is_level(true, samples, starts, m) {
-            return true;
-        }
-        return is_level(false, samples, starts, m);
-    }
-    false
+    is_quiet_part(s, samples, cuts, q, 0, walk::line_length(s, kind))
 }

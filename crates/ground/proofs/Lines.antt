@@ -25,6 +25,11 @@ pub some : (s : Sizes) → Sized s → (k : Kind) → 0 < grid s k along-x
 some s h Corner = omega arith
 some s h Centre = omega arith
 
+-- a line has at most 65 points
+pub line-short : (s : Sizes) → Sized s → (k : Kind) → grid s k along-x ≤ 65
+line-short s h Corner = omega (arith, h .x-high)
+line-short s h Centre = omega (arith, h .x-high)
+
 pub line-stands : {s : Sizes} {p : ℕ} {q : Site} → Line s p q → Stands s p q
 line-stands l = record { is = l .is; below = l .below }
 

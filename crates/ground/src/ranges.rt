@@ -11,7 +11,7 @@ ghost use Rattle.lattice.specs.inner.Site.{most};
 ghost use Rattle.ground.specs.inner.Blank.{Blank};
 ghost use Rattle.ground.specs.inner.Labels.{hasLabel};
 
-fn lesser(a: usize, b: usize) -> usize
+pub fn lesser(a: usize, b: usize) -> usize
     ensures { λ r. ⌜ (r ≤ a) × (r ≤ b) × ((k : ℕ) → r ≤ k → k < a → b ≤ k) ⌝ }
 {
     if a < b { a } else { b }

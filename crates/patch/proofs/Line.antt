@@ -3,7 +3,6 @@
 --     still-tabled        a table stays as long as it is
 --     in-line, to-fault   the point that the first fault is found at, and the points before it
 --     fine-to             these stay
---     line-short          a line has at most 65 points
 use Prim.Native.Nat.{ℕ, _+_, _*_, _-_, _/_, _≤_}
 use native.Mathlib.Omega.{arith}
 use mathlib.Core.Path.{_≡_, refl, _∙_}
@@ -12,10 +11,8 @@ use lib.IntN.{ℤ}
 use lib.ListN.{length}
 use Rattle.lattice.specs.declared.Sizes.{Sizes}
 use Rattle.lattice.specs.declared.Site.{Site}
-use Rattle.lattice.specs.declared.Kind.{Kind}
-use Rattle.lattice.specs.declared.Kind.the-variants.{Corner, Centre}
 use Rattle.lattice.specs.Axis.{along-x}
-use Rattle.lattice.specs.Counts.{Sized, grid}
+use Rattle.lattice.specs.Counts.{grid}
 use Rattle.moving.specs.declared.Label.{Label}
 use Rattle.moving.specs.Block.{blockOf, Tabled}
 use Rattle.filling.specs.Check.{cutFault}
@@ -50,8 +47,3 @@ pub fine-to : (s : Sizes) (label : ℕ → Label) (samples : List ℤ) (cuts : L
     → Mends (tableDue s label samples) (7 * (q .own + x)) (7 * (q .own + y)) cuts cuts (counts 0 0)
 unfolding cutFault numberAt
 fine-to s label samples cuts q x y f = fine-part (omega (arith, f .low)) (record { is = λ o l u. f .fine .is o l u }) refl
-
--- a line has at most 65 points
-pub line-short : (s : Sizes) → Sized s → (k : Kind) → grid s k along-x ≤ 65
-line-short s h Corner = omega (arith, h .x-high)
-line-short s h Centre = omega (arith, h .x-high)

@@ -5,7 +5,7 @@
 --     numberAt, sevenFault   a byte's fault, and that of one of a point's seven bytes
 --     crossingsAt            which of the seven edges from a point cross
 --     PointFine, LineFine, PointAnswered, LineAnswered     the answers for a point and for a line of points
---     RestAnswered           the answer for the rest of a line
+--     PartFine, PartAnswered, RestAnswered     the same for a part of a line, and for its rest
 --     Asked                  a decoded point of a block whose samples are all there
 use Prim.Native.Nat.{ℕ, _+_, _*_, _≤_, _<_}
 use mathlib.Core.Path.{_≡_}
@@ -93,9 +93,16 @@ module _ (s : Sizes) (label : ℕ → Label) (cuts : List ℕ) (q : Site) where
   abbrev pub LineAnswered : Fault → Type 0
   LineAnswered = Answered (cutFault s label cuts) (7 * q .own) (7 * (q .own + grid s (q .kind) along-x))
 
-  -- and from its point of index x on
+  -- and of its points from index x on and before index e
+  abbrev pub PartFine : ℕ → ℕ → Type 0
+  PartFine x e = Throughout (cutFault s label cuts) 0 (7 * (q .own + x)) (7 * (q .own + e))
+
+  abbrev pub PartAnswered : ℕ → ℕ → Fault → Type 0
+  PartAnswered x e = Answered (cutFault s label cuts) (7 * (q .own + x)) (7 * (q .own + e))
+
+  -- and from index x on
   abbrev pub RestAnswered : ℕ → Fault → Type 0
-  RestAnswered x = Answered (cutFault s label cuts) (7 * (q .own + x)) (7 * (q .own + grid s (q .kind) along-x))
+  RestAnswered x = PartAnswered x (grid s (q .kind) along-x)
 
 pub record Asked (s : Sizes) (samples : List ℤ) (q : Site) : Type 0 where
   pub sized : Sized s

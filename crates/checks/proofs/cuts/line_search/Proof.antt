@@ -1,74 +1,62 @@
 -- The loop's invariant: from the first point on, no byte before those of the point of index x is at fault. Assumes nothing.
 use Prim.Native.Nat.{_+_, _*_, _-_, _≤_}
 use native.Mathlib.Omega.{arith}
-use lib.ListN.{length-take, length-drop}
-use Rattle.lattice.proofs.Sites.{numbers-small}
+use mathlib.Core.Path.{_≡_}
+use Rattle.lattice.specs.Axis.{along-x}
+use Rattle.lattice.specs.Counts.{grid}
 use Rattle.moving.specs.Label.{signs}
 use Rattle.filling.specs.Check.{cutFault}
-use Rattle.ground.proofs.Points.{sited}
-use Rattle.ground.proofs.Lines.{line-stands}
-use Rattle.ground.proofs.Sites.{along-own}
 use Rattle.checks.specs.inner.Search.{Throughout}
 use Rattle.checks.specs.inner.Faults.{fine, gap, stray}
 use Rattle.checks.proofs.Search.{none-yet, joined, upto}
-use Rattle.checks.proofs.Faults.{fine-of, gap-of, stray-of, wide, raise-fine, raise-wrong, seven-is}
-use Rattle.checks.proofs.Walk.{Room, room, line-point}
+use Rattle.checks.proofs.Faults.{fine-of, gap-of, stray-of, wide}
+use Rattle.checks.proofs.Walk.{onward}
 use borrow.Author.Needs.{needs}
+use borrow.Author.Tests.{not-false}
 use Rattle.checks.proofs.cuts.line_search.Statement.{statement}
 use Rattle.checks.proofs.cuts.line_search.Tie as tie
 
 abbrev Inv-loop : tie.InvT-loop
-Inv-loop s samples cuts q from own m x₀ x =
-    Room s own m × (from ≤ x) × (x ≤ m) × Throughout (cutFault s (signs samples) cuts) 0 (7 * (own + from)) (7 * (own + x))
+Inv-loop s samples cuts q from m x₀ x =
+    (from ≤ x) × (x ≤ m) × (m ≡ grid s (q .kind) along-x) × (m ≤ 65)
+    × Throughout (cutFault s (signs samples) cuts) 0 (7 * (q .own + from)) (7 * (q .own + x))
 
 abbrev μ-loop : tie.MeasureT-loop
-μ-loop s samples cuts q from own m x₀ x = m - x
+μ-loop s samples cuts q from m x₀ x = m - x
 
 line-length-requires : tie.Need-line-length-requires Inv-loop μ-loop
 line-length-requires c κs = c .before .pre .0 .sized
 
 loop-holds : tie.Need-loop-holds Inv-loop μ-loop
 loop-holds c =
-    let at-start = c .before .before in
-    let e = c .line-length .ensures .0 in
-    (room (at-start .pre .0 .sized) (at-start .pre .1 .0) e, omega arith, omega (arith, at-start .pre .1 .1), none-yet (omega arith))
+    let e = c .line-length .ensures in
+    (omega arith, omega (arith, c .before .before .pre .1 .1, e .0), e .0, e .1 .1, none-yet (omega arith))
 
-add-a : tie.Need-add-a Inv-loop μ-loop
-add-a c = omega arith
+add-lesser : tie.Need-add-lesser Inv-loop μ-loop
+add-lesser c = omega (arith, c .before .loop .inv)
 
-mul-a : tie.Need-mul-a Inv-loop μ-loop
-mul-a c = omega arith
+lesser-requires : tie.Need-lesser-requires Inv-loop μ-loop
+lesser-requires c κs = search needs
 
-add-e : tie.Need-add-e Inv-loop μ-loop
-add-e c = omega arith
+is-quiet-part-requires : tie.Need-is-quiet-part-requires Inv-loop μ-loop
+is-quiet-part-requires c κs =
+    let at-end = c in
+    let at-loop = at-end .before .before in
+    let p = at-loop .before .before .before .pre in
+    let i = at-loop .loop .inv in
+    let e = at-end .lesser .ensures in
+    let on = onward (omega arith) (at-end .before .loop-test .taken) (e .2) in
+    (p .0, (p .1 .0, (omega arith, omega (arith, e .1, i .2))))
 
-sub-site-fault : tie.Need-sub-site-fault Inv-loop μ-loop
-sub-site-fault c = omega arith
-
-part-site-fault-start : tie.Need-part-site-fault-start Inv-loop μ-loop
-part-site-fault-start c = omega arith
-
-part-site-fault-end : tie.Need-part-site-fault-end Inv-loop μ-loop
-part-site-fault-end c = omega (arith, c .before .before .before .before .pre .0 .cuts-long)
-
-along-requires : tie.Need-along-requires Inv-loop μ-loop
-along-requires c κs =
-    let at-length = c .before .before .before in
-    let at-start = at-length .before .before in
-    let n = numbers-small (at-start .args .s) (at-start .args .q) (at-start .pre .0 .sized) (sited (line-stands (at-start .pre .1 .0))) in
-    let e = at-length .line-length .ensures .1 in
-    (n .0, n .1, omega arith)
-
-site-fault-requires : tie.Need-site-fault-requires Inv-loop μ-loop
-site-fault-requires c κs =
-    let in-loop = c .before .before in
-    let at-length = in-loop .before .before in
-    let at-start = at-length .before .before in
-    let long = at-length .line-length .ensures .0 in
-    let t = at-start .pre .0 in (
-      line-point (t .sized) (at-start .pre .1 .0) long (t .samples-long) (in-loop .loop-test .taken) (c .along .ensures),
-      simp (length-take, length-drop) (omega (arith, t .cuts-long)),
-    )
+part-search-requires : tie.Need-part-search-requires Inv-loop μ-loop
+part-search-requires c κs =
+    let at-end = c .before .before in
+    let at-loop = at-end .before .before in
+    let p = at-loop .before .before .before .pre in
+    let i = at-loop .loop .inv in
+    let e = at-end .lesser .ensures in
+    let on = onward (omega arith) (at-end .before .loop-test .taken) (e .2) in
+    (p .0, (p .1 .0, (omega arith, omega (arith, e .1, i .2))))
 
 enum-told : tie.Need-enum-told Inv-loop μ-loop
 enum-told c = search needs
@@ -76,65 +64,54 @@ enum-told c = search needs
 enum-known-found : tie.Need-enum-known-found Inv-loop μ-loop
 enum-known-found c = search needs
 
-add-t21 : tie.Need-add-t21 Inv-loop μ-loop
-add-t21 c =
-    let at-site = c .before .before .before in
-    omega (arith, gap-of (at-site .site-fault .ensures) (c .before .found .given .1) .high)
-
 returns : tie.Need-returns Inv-loop μ-loop
 returns c =
-    let at-site = c .before .before .before in
-    let at-along = at-site .before in
-    let at-loop = at-along .before .before .before in
-    let at-length = at-loop .before in
-    let at-start = at-length .before .before in
-    let e = at-length .line-length .ensures .0 in
-    let same = seven-is _ _ _ (along-own (at-start .pre .1 .0) (omega arith) (at-along .along .ensures)) in
-    gap (wide (at-loop .loop .inv .3) (omega arith) (omega arith)
-    (raise-wrong same (gap-of (at-site .site-fault .ensures) (c .before .found .given .1))))
+    let at-part = c .before .before .before in
+    let at-end = at-part .before .before .before in
+    let i = at-end .before .before .loop .inv in
+    gap (wide (i .4) (omega arith) (omega (arith, at-end .lesser .ensures .1, i .2)) (gap-of (at-part .part-search .ensures) (c .before .found .given .1)))
 
 enum-known-found-2 : tie.Need-enum-known-found-2 Inv-loop μ-loop
 enum-known-found-2 c = search needs
 
-add-t22 : tie.Need-add-t22 Inv-loop μ-loop
-add-t22 c =
-    let at-site = c .before .before .before in
-    omega (arith, stray-of (at-site .site-fault .ensures) (c .before .found2 .given .1) .high)
-
 returns-2 : tie.Need-returns-2 Inv-loop μ-loop
 returns-2 c =
-    let at-site = c .before .before .before in
-    let at-along = at-site .before in
-    let at-loop = at-along .before .before .before in
-    let at-length = at-loop .before in
-    let at-start = at-length .before .before in
-    let e = at-length .line-length .ensures .0 in
-    let same = seven-is _ _ _ (along-own (at-start .pre .1 .0) (omega arith) (at-along .along .ensures)) in
-    stray (wide (at-loop .loop .inv .3) (omega arith) (omega arith)
-    (raise-wrong same (stray-of (at-site .site-fault .ensures) (c .before .found2 .given .1))))
-
-add-x : tie.Need-add-x Inv-loop μ-loop
-add-x c = let e = c .before .before .before .before .before .before .before .line-length .ensures .1 in omega arith
+    let at-part = c .before .before .before in
+    let at-end = at-part .before .before .before in
+    let i = at-end .before .before .loop .inv in
+    stray (wide (i .4) (omega arith) (omega (arith, at-end .lesser .ensures .1, i .2)) (stray-of (at-part .part-search .ensures) (c .before .found2 .given .1)))
 
 loop-less : tie.Need-loop-less Inv-loop μ-loop
-loop-less c = omega arith
+loop-less c =
+    let at-end = c .before .before .before .before .before in
+    let e = at-end .lesser .ensures in
+    omega (arith, onward (omega arith) (at-end .before .loop-test .taken) (e .2), e .1)
 
 loop-again : tie.Need-loop-again Inv-loop μ-loop
 loop-again c =
-    let at-site = c .before .before in
-    let at-along = at-site .before in
-    let at-loop = at-along .before .before .before in
-    let at-length = at-loop .before in
-    let at-start = at-length .before .before in
-    let e = at-length .line-length .ensures .0 in
-    let same = seven-is _ _ _ (along-own (at-start .pre .1 .0) (omega arith) (at-along .along .ensures)) in
-    let w = raise-fine same (fine-of (at-site .site-fault .ensures) (c .enum-told .given .1)) in
-    (at-loop .loop .inv .0, omega arith, omega arith, joined (at-loop .loop .inv .3) (upto (omega arith) w))
+    let at-part = c .before .before in
+    let at-end = at-part .before .before .before in
+    let i = at-end .before .before .loop .inv in
+    let e = at-end .lesser .ensures in
+    let on = onward (omega arith) (at-end .before .loop-test .taken) (e .2) in
+    (omega arith, e .1, i .2, i .3, joined (i .4) (fine-of (at-part .part-search .ensures) (c .enum-told .given .1)))
+
+loop-less-2 : tie.Need-loop-less-2 Inv-loop μ-loop
+loop-less-2 c =
+    let at-end = c .before .before in
+    let e = at-end .lesser .ensures in
+    omega (arith, onward (omega arith) (at-end .before .loop-test .taken) (e .2), e .1)
+
+loop-again-2 : tie.Need-loop-again-2 Inv-loop μ-loop
+loop-again-2 c =
+    let at-end = c .before .before in
+    let i = at-end .before .before .loop .inv in
+    let e = at-end .lesser .ensures in
+    let on = onward (omega arith) (at-end .before .loop-test .taken) (e .2) in
+    (omega arith, e .1, i .2, i .3, joined (i .4) (c .before .is-quiet-part .ensures (not-false _ (c .if1 .left))))
 
 returns-3 : tie.Need-returns-3 Inv-loop μ-loop
-returns-3 c =
-    let e = c .before .before .line-length .ensures .0 in
-    fine (upto (omega arith) (c .before .loop .inv .3))
+returns-3 c = let i = c .before .loop .inv in fine (upto (omega (arith, i .2)) (i .4))
 
 pub line-search-spec : {M : Type 1} → statement M
 line-search-spec =
@@ -144,22 +121,17 @@ line-search-spec =
     μ-loop
     line-length-requires
     loop-holds
-    add-a
-    mul-a
-    add-e
-    sub-site-fault
-    part-site-fault-start
-    part-site-fault-end
-    along-requires
-    site-fault-requires
+    add-lesser
+    lesser-requires
+    is-quiet-part-requires
+    part-search-requires
     enum-told
     enum-known-found
-    add-t21
     returns
     enum-known-found-2
-    add-t22
     returns-2
-    add-x
     loop-less
     loop-again
+    loop-less-2
+    loop-again-2
     returns-3)
