@@ -1,12 +1,14 @@
 -- The papers' cases come out: what `fill`, `locate` and `mend` say of each is what documents 01 and 02 say. Assumes nothing.
 use mathlib.Core.Path.{_≡_, refl}
 use mathlib.Core.List.{map}
+use Rattle.basics.specs.Lists.{gather}
 use Rattle.mending.specs.Mend.{sizeOf, rounded, held, byteTo, mendedByte, faults, mend}
 use Rattle.casebook.specs.cases.Given.{laid, laidRuns, givenSamples, givenCuts, allEntered, changed}
 use Rattle.casebook.specs.cases.Cases.{cases, strange}
 use Rattle.casebook.specs.cases.Nearest.{nearest}
 use Rattle.casebook.specs.cases.Bands.{rodSamples, rod, bands}
 use Rattle.casebook.specs.cases.Mends.{sampled, mendings}
+use Rattle.casebook.specs.cases.Strays.{air, strays}
 use Rattle.casebook.specs.cases.Result.{computed, expected, found, resultOf}
 use Rattle.casebook.proofs.Opened.{definitions}
 
@@ -34,3 +36,8 @@ unfolding
     definitions sizeOf rounded held byteTo mendedByte faults mend
     laid laidRuns givenSamples givenCuts allEntered changed sampled mendings
 mends-come-out = refl
+
+-- document 02, F-5
+pub strays-come-out : map computed strays ≡ map expected strays
+unfolding definitions laid laidRuns givenSamples givenCuts changed gather air strays computed expected found resultOf
+strays-come-out = refl

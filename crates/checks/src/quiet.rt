@@ -83,7 +83,14 @@ fn is_level(plus: bool, samples: &[i16], starts: [usize; 5], m: usize) -> bool
 // The bytes of some points of a line, from one on and before another, are fine, at a glance: all are
 // zero, and of the samples of these points and of the candidates none is above zero, or none is
 // below, as the first one has it.
-pub fn is_quiet_part(s: Sizes, samples: &[i16], cuts: &[u8], q: Site, from: usize, to: usize) -> bool
+pub fn is_quiet_part(
+    s: Sizes,
+    samples: &[i16],
+    cuts: &[u8],
+    q: Site,
+    from: usize,
+    to: usize,
+) -> bool
     requires { ⌜ Tabled (blockOf s (now samples) (now cuts)) ⌝ }
     requires { ⌜ Line s (q .own) q ⌝ }
     requires { ⌜ (from < to) × (to ≤ grid s (q .kind) along-x) ⌝ }

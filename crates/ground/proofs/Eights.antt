@@ -47,9 +47,8 @@ seen-more {bytes} {from} {o} {next} {seen = seen} {answer = answer} e f v w =
     }
 
 -- the whole range: the eights, and what is left over
-pub blank-rest : {bytes : List ℕ} {from o seen : ℕ} (to rest : ℕ) → rest ≤ o → Seen bytes from o seen → seen ≡ 0 → Blank bytes rest to
-    → Blank bytes from to
-blank-rest {bytes} {from} {o} to rest e v z w = joined bytes from o to (v .none z) (λ j a b. w j (omega arith) b)
+pub blank-rest : {bytes : List ℕ} {from o seen : ℕ} (to : ℕ) → Seen bytes from o seen → seen ≡ 0 → Blank bytes o to → Blank bytes from to
+blank-rest {bytes} {from} {o} to v z w = joined bytes from o to (v .none z) w
 
 -- a range that starts past the table's end
 pub nothing-there : (bytes : List ℕ) (from to end : ℕ) → end ≤ from → ((k : ℕ) → end ≤ k → k < to → length bytes ≤ k) → Blank bytes from to

@@ -23,7 +23,7 @@ add-result c = search needs
 
 returns : tie.Need-returns
 returns c =
-    halves refl refl (c .before .four .ensures .0) (c .four2 .ensures .0) (λ z. (omega arith, omega arith)) (λ y z. omega arith)
+    halves (omega arith) refl (c .before .four .ensures .0) (c .four2 .ensures .0) (λ z. (omega arith, omega arith)) (λ y z. omega arith)
 
 pub eight-spec : {M : Type 1} → statement M
 eight-spec =

@@ -60,7 +60,8 @@ are-zero-requires c κs = search needs
 
 returns-3 : tie.Need-returns-3 Inv-loop μ-loop
 returns-3 c =
-    λ t. blank-rest _ _ (omega arith) (c .before .before .before .loop .inv) (c .before .if2 .left) (c .are-zero .ensures t)
+    λ t. blank-rest _ (c .before .before .before .loop .inv) (c .before .if2 .left)
+    (λ o l u. c .are-zero .ensures t o (omega arith) (omega arith))
 
 pub is-blank-spec : {M : Type 1} → statement M
 is-blank-spec =

@@ -47,7 +47,7 @@ returns c =
     let at-clear = c .before .before .before .before in
     let at-start = at-clear .before .before .before .before in
     let zeros = at-clear .clear .ensures ∙ ap (λ (n : ℕ). replicate n 0) (at-start .pre .1) in
-    warped-never _ zeros (c .before .is-blank .ensures (c .if1 .taken))
+    warped-never _ zeros (λ o l u. c .before .is-blank .ensures (c .if1 .taken) o (omega arith) (omega arith))
 
 point-count-requires : tie.Need-point-count-requires Inv-loop μ-loop
 point-count-requires c κs = c .before .before .before .before .before .before .before .before .pre .0 .sized
