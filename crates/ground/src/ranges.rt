@@ -17,7 +17,7 @@ pub fn lesser(a: usize, b: usize) -> usize
     if a < b { a } else { b }
 }
 
-// All bytes from one on and before another are zero, each looked at by itself: the highest is.
+// All bytes from one on and before another are zero, byte by byte: the highest is.
 pub fn are_zero(bytes: &[u8], from: usize, to: usize) -> bool
     ensures { λ r. ⌜ (r ≡ true → Blank (now (bytes .entry)) from to) ⌝ }
 {

@@ -48,7 +48,7 @@ fn is_uncut(cuts: &[u8], from: usize, m: usize) -> bool
     requires { ⌜ (from ≤ rangeMost) × (m ≤ 65) ⌝ }
     ensures { λ r. ⌜ (r ≡ true → Uncut (now (cuts .entry)) from m) ⌝ }
 {
-    ranges::is_blank(cuts, 7 * from, 7 * (from + m + 1))
+    ranges::are_zero(cuts, 7 * from, 7 * (from + m + 1))
 }
 
 // No cut on any edge of a line of points: none starts on the line, nor where an edge that ends on it

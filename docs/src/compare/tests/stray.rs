@@ -4,7 +4,7 @@ use compare::{good_call, same_filling, same_mending};
 use reference::block::Block;
 use reference::damage::{Call, Filling};
 use reference::fill::Filled;
-use reference::generate::{block, CUTTINGS, MIXES};
+use reference::generate::{block, Cutting, Mix, CUTTINGS, MIXES};
 use reference::lattice::Lattice;
 use reference::mend::Mended;
 use reference::random::Random;
@@ -51,6 +51,22 @@ fn every_offset_of_three_cubes_of_air() {
 fn every_offset_of_rows_of_air() {
     for nx in 1..=8 {
         every_offset_of_air([nx, 1, 1], 7 * (5 * nx as usize + 4));
+    }
+}
+
+/// Every empty byte of blocks whose lines, of 65 and 64 points, meet the skin here and there: parts of lines are passed too, and their ends
+/// stand anywhere between two skins.
+#[test]
+fn every_empty_offset_of_long_lines() {
+    let mut random = Random::new(135);
+    for mix in [Mix::Sparse, Mix::Ball, Mix::Ribs] {
+        let mut call = Call::good(block(&mut random, [64, 2, 2], mix, Cutting::Wild), 0, 0);
+        assert_eq!(same_filling(&call, random.bits()).number, 0);
+        for offset in 0..call.block.cuts.len() {
+            if call.block.cuts[offset] == 0 {
+                check(&mut call, &[(offset, 1)], &mut random);
+            }
+        }
     }
 }
 
