@@ -4,7 +4,7 @@ use native.Mathlib.Omega.{arith}
 use mathlib.Core.Path.{_≡_, ap, _∙_}
 use mathlib.Core.Logic.{inl, inr}
 use mathlib.Core.List.{List}
-use lib.Bits.{bitOr, bitAnd, or-add-and, and-le-l, and-le-r}
+use lib.Bits.{bitOr, or-add-and, and-le-l, and-le-r}
 use lib.ListN.{length, getD, List·getD-eq-default}
 use Rattle.basics.proofs.Test.{lt-or}
 use Rattle.ground.specs.inner.Blank.{Blank, Joint}
@@ -25,9 +25,9 @@ module _ {bytes : List ℕ} {o at n m low high whole : ℕ} (e : at ≡ o + n) (
   pub halves : (whole ≡ 0 → (low ≡ 0) × (high ≡ 0)) → (low ≡ 0 → high ≡ 0 → whole ≡ 0) → Joint bytes o m whole
   halves to from =
       record {
-        passed = λ z. joined bytes o (o + n) (o + m) (λ j a b. v .passed (to z .0) j a (omega arith)) (λ j a b. w .passed (to z .1) j (omega arith) (omega arith));
-        passes = λ z.
-            from (v .passes (λ j a b. z j a (omega arith))) (w .passes (λ j a b. z j (omega arith) (omega arith)));
+        passed = λ z. joined bytes o at (o + m) (λ j a b. v .passed (to z .0) j a (omega arith))
+            (λ j a b. w .passed (to z .1) j a (omega arith));
+        passes = λ z. from (v .passes (λ j a b. z j a (omega arith))) (w .passes (λ j a b. z j (omega arith) (omega arith)));
       }
 
 -- what the tests before o have seen: 0 only if all bytes there are zero

@@ -1,6 +1,5 @@
 // The joint test of eight bytes in a row, which the compiler makes one load of. The bytes are the
 // digits of one number, the first the lowest, so that no sum of theirs can wrap to zero.
-ghost use mathlib.Core.Path.{_≡_};
 ghost use Prim.Native.Nat.{_+_, _<_, _≤_};
 ghost use lib.ListN.{length};
 ghost use Rattle.ground.specs.inner.Blank.{Joint};

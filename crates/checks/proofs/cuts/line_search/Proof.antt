@@ -69,7 +69,8 @@ returns c =
     let at-part = c .before .before .before in
     let at-end = at-part .before .before .before in
     let i = at-end .before .before .loop .inv in
-    gap (wide (i .4) (omega arith) (omega (arith, at-end .lesser .ensures .1, i .2)) (gap-of (at-part .part-search .ensures) (c .before .found .given .1)))
+    let w = gap-of (at-part .part-search .ensures) (c .before .found .given .1) in
+    gap (wide (i .4) (omega arith) (omega (arith, at-end .lesser .ensures .1, i .2)) w)
 
 enum-known-found-2 : tie.Need-enum-known-found-2 Inv-loop μ-loop
 enum-known-found-2 c = search needs
@@ -79,7 +80,8 @@ returns-2 c =
     let at-part = c .before .before .before in
     let at-end = at-part .before .before .before in
     let i = at-end .before .before .loop .inv in
-    stray (wide (i .4) (omega arith) (omega (arith, at-end .lesser .ensures .1, i .2)) (stray-of (at-part .part-search .ensures) (c .before .found2 .given .1)))
+    let w = stray-of (at-part .part-search .ensures) (c .before .found2 .given .1) in
+    stray (wide (i .4) (omega arith) (omega (arith, at-end .lesser .ensures .1, i .2)) w)
 
 loop-less : tie.Need-loop-less Inv-loop μ-loop
 loop-less c =

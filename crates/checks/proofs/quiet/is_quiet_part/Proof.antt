@@ -1,6 +1,6 @@
 -- Bytes that are blank, and five ranges that are level for one sign or the other. Assumes nothing.
 use native.Mathlib.Omega.{arith}
-use mathlib.Core.Path.{refl, sym, ap, subst}
+use mathlib.Core.Path.{refl, sym, subst}
 use lib.Dec.{T}
 use borrow.Author.Tests.{not-false}
 use Rattle.lattice.specs.declared.Site.{Site}

@@ -23,7 +23,9 @@ add-result c = search needs
 
 returns : tie.Need-returns
 returns c =
-    (halves (omega arith) refl (c .before .two .ensures .0) (c .two2 .ensures .0) (λ z. (omega arith, omega arith)) (λ y z. omega arith), omega (arith, c .before .two .ensures .1, c .two2 .ensures .1))
+    let low = c .before .two .ensures in
+    let high = c .two2 .ensures in
+    (halves (omega arith) refl (low .0) (high .0) (λ z. (omega arith, omega arith)) (λ y z. omega arith), omega (arith, low .1, high .1))
 
 pub four-spec : {M : Type 1} → statement M
 four-spec = tie.close (tie.spec two-requires add-two two-requires-2 mul-result add-result returns)
