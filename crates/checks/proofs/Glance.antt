@@ -42,7 +42,7 @@ module _ {s : Sizes} {label : ℕ → Label} {q : Site} (h : Sized s) (g : Sited
   calm-none w d i = calm-crosses s q h g d i refl label (w .none d i)
 
   pub calm-fine : {ends : List ℕ} → ends ≡ endsAt s q → Calm label (q .own) ends
-      → (bytes : List ℕ) → ((d : ℕ) → 0 ≤ d → d < 7 → getD bytes d 0 ≡ 0) → PointFine s label bytes q
+      → (bytes : List ℕ) → Blank bytes 0 7 → PointFine s label bytes q
   calm-fine e w bytes z =
       record {
         is = λ d l u.

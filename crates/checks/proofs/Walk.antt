@@ -3,8 +3,9 @@
 --     Room, room      a line lies in the table, it is short, and its numbers are small
 --     next-own        where the next line starts
 --     line-point      a point of a line, as its test asks for it
---     onward          a part of a line holds at least one point
-use Prim.Native.Nat.{ℕ, _+_, _≤_, _<_}
+--     part-small      the numbers of a part of a line are small
+--     onward          it holds at least one point
+use Prim.Native.Nat.{ℕ, _+_, _-_, _≤_, _<_}
 use native.Mathlib.Omega.{arith}
 use mathlib.Core.Path.{_≡_, sym, ap, _∙_}
 use mathlib.Core.Logic.{inl, inr}
@@ -20,7 +21,7 @@ use Rattle.lattice.specs.inner.Site.{siteOf}
 use Rattle.lattice.proofs.Bounds.{points-small}
 use Rattle.ground.specs.inner.Lines.{Line, lineAt}
 use Rattle.ground.proofs.Lines.{line-own, line-self, line-first, line-fits, line-short, some}
-use Rattle.ground.proofs.Sites.{along-sited}
+use Rattle.ground.proofs.Sites.{along-sited, along-own}
 use Rattle.checks.specs.inner.Faults.{Asked}
 
 pub first-line : {s : Sizes} {q : Site} → Sized s → q ≡ siteOf s 0 → Line s (q .own) q × (q .own ≡ 0)
@@ -48,6 +49,10 @@ module _ {s : Sizes} {q : Site} {m : ℕ} (h : Sized s) (l : Line s (q .own) q) 
 
   pub line-point : {samples : List ℤ} {t : Site} {x : ℕ} → length samples ≡ points s → x < m → t ≡ lineAt q x → Asked s samples t
   line-point n i f = record { sized = h; long = n; sited = along-sited l (omega arith) f }
+
+  -- the points from index x on and before z, by the decoded point that they start at
+  pub part-small : {t : Site} {x z : ℕ} → x < z → z ≤ m → t ≡ lineAt q x → t .own + (z - x) ≤ 536769
+  part-small i j f = omega (arith, room .fits, room .small, along-own l (omega arith) f)
 
 -- the lesser of two numbers that are above x is above x
 pub onward : {x a b end : ℕ} → x < a → x < b → ((k : ℕ) → end ≤ k → k < a → b ≤ k) → x < end

@@ -53,8 +53,11 @@ fn part_search(s: Sizes, samples: &[i16], cuts: &[u8], q: Site, from: usize, to:
     Fault::Fine
 }
 
-// The first byte at fault of a line of points from one on: sixteen points at a glance, and one by
-// one only where that does not do.
+// So many points are looked at together.
+const PART: usize = 16;
+
+// The first byte at fault of a line of points from one on: some points at a glance, and one by one
+// only where that does not do.
 pub fn line_search(s: Sizes, samples: &[i16], cuts: &[u8], q: Site, from: usize) -> Fault
     requires { ⌜ Tabled (blockOf s (now samples) (now cuts)) ⌝ }
     requires { ⌜ Line s (q .own) q ⌝ }
@@ -65,7 +68,7 @@ pub fn line_search(s: Sizes, samples: &[i16], cuts: &[u8], q: Site, from: usize)
     let m = walk::line_length(s, kind);
     let mut x = from;
     while x < m {
-        let end = ranges::lesser(x + 16, m);
+        let end = ranges::lesser(x + PART, m);
         if !quiet::is_quiet_part(s, samples, cuts, q, x, end) {
             let found = part_search(s, samples, cuts, q, x, end);
             match found {
@@ -79,7 +82,7 @@ pub fn line_search(s: Sizes, samples: &[i16], cuts: &[u8], q: Site, from: usize)
     Fault::Fine
 }
 
-// The first byte at fault of a line. Most lines need only a glance.
+// The first byte at fault of a line. Many lines need only a glance.
 fn line_fault(s: Sizes, samples: &[i16], cuts: &[u8], q: Site) -> Fault
     requires { ⌜ Tabled (blockOf s (now samples) (now cuts)) ⌝ }
     requires { ⌜ Line s (q .own) q ⌝ }

@@ -1,6 +1,6 @@
 // Points with nothing to find: no edge crosses and all seven bytes are zero. Most points are so, many
-// parts of lines and many lines. Nobody asks which edges exist: the candidates for their far ends are looked
-// at, and that some of these are no far ends does no harm.
+// parts of lines and many lines. Nobody asks which edges exist: the candidates for their far ends are
+// looked at, and that some of these are no far ends does no harm.
 use crate::points;
 use ground::ranges;
 use ground::strides;
@@ -81,8 +81,8 @@ fn is_level(plus: bool, samples: &[i16], starts: [usize; 5], m: usize) -> bool
 }
 
 // The bytes of some points of a line, from one on and before another, are fine, at a glance: all are
-// zero, and of the samples of these points and of the candidates none is above zero, or none is
-// below, as the first one has it.
+// zero, and of the samples of these points and of the candidates none is above zero or, where the
+// first point's is above zero, none is below.
 pub fn is_quiet_part(
     s: Sizes,
     samples: &[i16],

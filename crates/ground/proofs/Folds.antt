@@ -15,6 +15,7 @@ use mir.Val.{ofZ, toZ}
 use Rattle.basics.proofs.Test.{lt-or}
 use Rattle.moving.specs.Label.{isPlus, isMinus}
 use Rattle.moving.proofs.Band.{label-in}
+use Rattle.ground.specs.inner.Blank.{Blank}
 use Rattle.ground.specs.inner.Labels.{hasLabel}
 use Rattle.ground.proofs.Labels.{handed, less-plus, not-less-plus, less-minus, not-less-minus}
 
@@ -36,7 +37,7 @@ capped-more {bytes} {from} {o} {top} {more} w h g = record { under = λ j a b. s
 -- a range up to `to`, of which the table holds what stands before `end`
 module _ {from o to end : ℕ} (g : end ≤ o) where
   pub blank-whole : {bytes : List ℕ} {top : ℕ} → ((k : ℕ) → end ≤ k → k < to → length bytes ≤ k) → Capped bytes from o top
-      → eqb top 0 ≡ true → (j : ℕ) → from ≤ j → j < to → getD bytes j 0 ≡ 0
+      → eqb top 0 ≡ true → Blank bytes from to
   blank-whole {bytes} {top} l w t j a b =
       elim (lt-or j o) [
         | inl u ↦ omega (arith, w .under j a u, eqb-true top 0 t)

@@ -20,7 +20,7 @@ fn four(bytes: &[u8], o: usize) -> u64
     two(bytes, o) + 65536 * two(bytes, o + 2)
 }
 
-// 0 exactly when all eight bytes from one on are zero.
+// The joint test: it passes, with 0, exactly when all eight bytes from one on are zero.
 pub fn eight(bytes: &[u8], o: usize) -> u64
     requires { ⌜ o + 8 ≤ length (now bytes) ⌝ }
     ensures { λ r. ⌜ Joint (now (bytes .entry)) o 8 r ⌝ }

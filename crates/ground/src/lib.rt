@@ -1,7 +1,6 @@
 // The ground floor of the code: what the checks, moving, mending, places and rows stand on. Lines of
-// points along x, far ends by strides, whole ranges of a table, eight bytes
-// together, labels of samples, the violation test
-// and the six-volume.
+// points along x, far ends by strides, whole ranges of a table, eight bytes together, labels of
+// samples, the violation test and the six-volume.
 mod joint;
 pub mod label;
 pub mod ranges;

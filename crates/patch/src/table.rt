@@ -87,7 +87,7 @@ fn mend_points(s: Sizes, samples: &[i16], cuts: &mut [u8], q: Site) -> Counts
     Counts { filled, cleared }
 }
 
-// The same; most lines need only a glance.
+// The same; many lines need only a glance.
 fn mend_line(s: Sizes, samples: &[i16], cuts: &mut [u8], q: Site) -> Counts
     requires { ⌜ Tabled (blockOf s (now samples) (now cuts)) ⌝ }
     requires { ⌜ Line s (q .own) q ⌝ }

@@ -1,6 +1,6 @@
 -- Document 02, F-5: "where eight bytes in a row must all be zero .. No answer and no reported place changes." Bytes that are not zero in
--- a cube of air, and beside the rubber of the given case, each refused with 7 at its own offset. The theorem is `strays-come-out` in
--- proofs/Cases.antt. A block of air of 3 by 3 by 3 cubes is too much to compute here: docs/src/compare/tests/stray.rs.
+-- a cube of air, and beside the rubber of the given case, the lowest refused with 7 at its own offset. The theorem is `strays-come-out`
+-- in proofs/Cases.antt. A block of air of 3 by 3 by 3 cubes is too much to compute here: docs/src/compare/tests/stray.rs.
 use Prim.Native.Nat.{ℕ, _+_, _*_, _-_}
 use mathlib.Core.List.{List, [], _∷_, _++_, map}
 use lib.IntN.{pos, negℤ}

@@ -1,8 +1,8 @@
--- What a glance at a point or at a line of points sees. Candidates for far ends stand a stride away, whether their edges
+-- What a glance at a point or at points of a line sees. Candidates for far ends stand a stride away, whether their edges
 -- exist or not.
 --     Calm       no candidate of a point is opposed to it
 --     Level      no sample of five ranges is above zero, or none is below: by the band 0
---     Covers     where the five ranges of a line start: every candidate stands there or one number further
+--     Covers     where the five ranges of a line, or of a part of it, start: every candidate stands there or one number further
 use Prim.Native.Nat.{ℕ, _+_, _≤_, _<_}
 use mathlib.Core.Path.{_≡_}
 use mathlib.Core.Bool.{Bool, false}

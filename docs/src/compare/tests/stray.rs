@@ -42,7 +42,7 @@ fn every_offset_of_air(sizes: [u32; 3], bytes: usize) {
 }
 
 #[test]
-fn every_offset_of_three_cubes_of_air() {
+fn every_offset_of_a_block_of_air() {
     every_offset_of_air([3, 3, 3], 637);
 }
 
@@ -54,14 +54,15 @@ fn every_offset_of_rows_of_air() {
     }
 }
 
-/// Every empty byte of blocks whose lines, of 65 and 64 points, meet the skin here and there: parts of lines are passed too, and their ends
-/// stand anywhere between two skins.
+/// Every empty byte of blocks with lines of 65 and 64 points, some of which meet the skin: parts of these are passed too. Mending goes on
+/// behind the point that it mended, so its parts start anywhere.
 #[test]
 fn every_empty_offset_of_long_lines() {
     let mut random = Random::new(135);
     for mix in [Mix::Sparse, Mix::Ball, Mix::Ribs] {
         let mut call = Call::good(block(&mut random, [64, 2, 2], mix, Cutting::Wild), 0, 0);
         assert_eq!(same_filling(&call, random.bits()).number, 0);
+        assert!(call.block.cuts.iter().filter(|&&byte| byte != 0).count() > 50, "{mix:?}");
         for offset in 0..call.block.cuts.len() {
             if call.block.cuts[offset] == 0 {
                 check(&mut call, &[(offset, 1)], &mut random);

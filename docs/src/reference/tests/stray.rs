@@ -80,8 +80,7 @@ fn ranges_of_every_length_and_alignment() {
     }
 }
 
-/// Neither a sum nor a difference of the two, wherever they are, is taken for
-/// the test.
+/// Two bytes that a sum that wraps, a difference or an exclusive or would hide.
 #[test]
 fn ranges_with_two_bytes() {
     for length in [8, 16, 55, 80] {

@@ -11,7 +11,7 @@ use Rattle.ground.proofs.Lines.{line-stands}
 use Rattle.ground.proofs.Sites.{along-sited, along-own}
 use Rattle.checks.specs.inner.Glance.{Covers}
 use Rattle.checks.proofs.Glance.{level-fine}
-use Rattle.checks.proofs.Walk.{room}
+use Rattle.checks.proofs.Walk.{room, part-small}
 use borrow.Author.Needs.{needs}
 use Rattle.checks.proofs.quiet.is_quiet_part.Statement.{statement}
 use Rattle.checks.proofs.quiet.is_quiet_part.Tie as tie
@@ -28,20 +28,17 @@ sub-count c = search needs
 mul-is-blank : tie.Need-mul-is-blank
 mul-is-blank c =
     let p = c .before .before .pre in
-    let r = room (p .0 .sized) (p .1 .0) refl in
-    omega (arith, r .fits, r .small, p .1 .1, along-own (p .1 .0) (omega (arith, p .1 .1)) (c .along .ensures))
+    omega (arith, part-small (p .0 .sized) (p .1 .0) refl (p .1 .1 .0) (p .1 .1 .1) (c .along .ensures))
 
 add-is-blank : tie.Need-add-is-blank
 add-is-blank c =
     let p = c .before .before .pre in
-    let r = room (p .0 .sized) (p .1 .0) refl in
-    omega (arith, r .fits, r .small, p .1 .1, along-own (p .1 .0) (omega (arith, p .1 .1)) (c .along .ensures))
+    omega (arith, part-small (p .0 .sized) (p .1 .0) refl (p .1 .1 .0) (p .1 .1 .1) (c .along .ensures))
 
 mul-is-blank-2 : tie.Need-mul-is-blank-2
 mul-is-blank-2 c =
     let p = c .before .before .pre in
-    let r = room (p .0 .sized) (p .1 .0) refl in
-    omega (arith, r .fits, r .small, p .1 .1, along-own (p .1 .0) (omega (arith, p .1 .1)) (c .along .ensures))
+    omega (arith, part-small (p .0 .sized) (p .1 .0) refl (p .1 .1 .0) (p .1 .1 .1) (c .along .ensures))
 
 is-blank-requires : tie.Need-is-blank-requires
 is-blank-requires c κs = search needs
