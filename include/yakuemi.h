@@ -17,7 +17,8 @@
  *                    the edge that leads to it in direction d. Points have their turns in ascending number; of the cuts too near it
  *                    whose other end has not moved and is not in the band a point takes the nearest, and of those as near the one
  *                    with the lower byte here
- *   rows      4T     written: the tetrahedra, four ids a row; an id is p for a point, N+7p+d for the cut of an edge
+ *   rows      4T     written: the tetrahedra, four ids a row; an id is p for a point, N+7p+d for the cut of an edge. Between the ids
+ *                    in use are holes; yakuemi_nodes makes node numbers of them, which have none
  *
  * A row a b c d has a positive volume: (b-a) x (c-a) . (d-a) is above zero, as VTK, Gmsh and Abaqus want it.
  *
@@ -61,11 +62,12 @@ enum yakuemi_number {
     YAKUEMI_STRAY = 7,    /* a cut byte is not zero where the ends' samples are not so, or where no edge is */
     YAKUEMI_CORNER = 8,   /* the id names no corner of a row */
     YAKUEMI_CODE = 9,     /* the point's state byte is not believable */
-    YAKUEMI_TABLE = 10,   /* the row table holds fewer than 4T numbers */
+    YAKUEMI_TABLE = 10,   /* the table to be written is too short: it holds fewer than four numbers a row, or a node */
     YAKUEMI_FILE = 11,    /* a malformed block file */
     YAKUEMI_ROOM = 12,    /* a lent table is too short for the block in the file */
     YAKUEMI_UNIT = 13,    /* the unit is not a number from 1/1048576 to 16 */
-    YAKUEMI_BAND = 14     /* the band is above 32767 */
+    YAKUEMI_BAND = 14,    /* the band is above 32767 */
+    YAKUEMI_ROWS = 15     /* the row table's length is not a multiple of four */
 };
 
 /* The measures of a block. */
@@ -238,6 +240,49 @@ struct yakuemi_placed_mm yakuemi_place_mm(uint32_t nx, uint32_t ny, uint32_t nz,
                                           const uint8_t *cuts, size_t cuts_len,
                                           const uint8_t *state, size_t state_len,
                                           uint32_t id, double unit);
+
+/* The answer of numbering nodes. */
+struct yakuemi_numbered {
+    uint32_t number;
+    uint64_t nodes; /* K, the nodes written, or needed with 10; else 0 */
+    uint64_t place; /* where in the row table the fault is, with 8 and 9; else 0 */
+};
+
+/*
+ * Numbers the nodes of rows, for programs that refuse ids with holes. A node is an id that stands in the row table, be it once or
+ * often. Nodes have numbers from 0 on, by ascending id. The node table is written, four numbers a node, and the row table rewritten:
+ *
+ *   nodes[4k]               the id of node k
+ *   nodes[4k+1] to [4k+3]   its x, y and z as yakuemi_place answers them: whole numbers, in 512ths of a cube's side
+ *   rows[i]                 was an id and is now the number of its node; nodes[4 * rows[i]] is the id again
+ *
+ * Lengths: 7N cuts, N state bytes, a row table of whole rows, and a node table of any length. Of a row table that is longer than the
+ * rows in it lend just the rows, 4T numbers: every number that is lent is taken for an id. Any row table is taken, not only one that
+ * filling wrote; an empty one has no nodes. What the node table held before does not matter.
+ *
+ * Answers 0 with K: the row table is rewritten whole, the first 4K numbers of the node table are the nodes, and what follows them
+ * stays as it was. Or, the first of these that applies, and both tables stay as they were:
+ *
+ *   1, 3, 4    a size; lengths                                                      K, place 0
+ *   15         the row table's length is not a multiple of four                     K, place 0
+ *   8 or 9     place: the index in the row table, from 0, of the first id that      K 0
+ *              has no place; the number is that with which yakuemi_place refuses it
+ *   10         the node table holds fewer than 4K numbers; place 0                  K as with a longer table
+ *
+ * To learn K, call it with a node table of length 0: nothing is written, and the answer is 10 and says K (or 0, if K is 0). Or lend 4
+ * times the length of the row table, or 32N if that is less, which always suffices: there are no more nodes than numbers in the row
+ * table, and no more than 8N ids have a place.
+ *
+ * The rewritten rows hold no ids: a second call on them would take node numbers for ids, and may well answer 0. For places in
+ * millimetres hand the ids in the node table to yakuemi_place_mm.
+ *
+ * The call takes about 122 KiB of the stack, whatever the block; the others take far less. Mind it in threads with small stacks.
+ */
+struct yakuemi_numbered yakuemi_nodes(uint32_t nx, uint32_t ny, uint32_t nz,
+                                      const uint8_t *cuts, size_t cuts_len,
+                                      const uint8_t *state, size_t state_len,
+                                      uint32_t *rows, size_t rows_len,
+                                      uint32_t *nodes, size_t nodes_len);
 
 #ifdef __cplusplus
 }

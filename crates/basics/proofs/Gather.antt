@@ -1,11 +1,12 @@
 -- Lists in parts: what stands in them, at which place, and that nothing stands twice. Assumes nothing.
 use Prim.Native.Nat.{ℕ, zero, suc, _+_, _-_, _≤_, _<_}
 use native.Mathlib.Omega.{arith}
-use native.Mathlib.Nat.{not-suc-le-zero}
-use mathlib.Core.Path.{_≡_, refl, sym, _∙_, subst}
+use native.Mathlib.Nat.{not-suc-le-zero, add-zero}
+use native.Mathlib.Numerals.{add-one}
+use mathlib.Core.Path.{_≡_, refl, sym, ap, _∙_, subst}
 use mathlib.Core.Logic.{_⊎_, inl, inr}
 use mathlib.Core.Bool.{Bool, true, not}
-use mathlib.Core.List.{List, [], _∷_, _++_}
+use mathlib.Core.List.{List, [], _∷_, _++_, append-nil, append-assoc}
 use lib.Dec.{T, T-not}
 use lib.ListN.{length, getD, length-append, List·getD-append}
 use lib.Seq.{getD-append-add}
@@ -72,6 +73,39 @@ from-once a (suc n) = more {x = a} (λ m. let b = from-bounds (suc a) n m in ome
 
 pub below-once : (n : ℕ) → NoRepeats (below n)
 below-once n = from-once 0 n
+
+-- a range and one more, and what is gathered over it
+from-more : (a n : ℕ) → from a (suc n) ≡ from a n ++ ((a + n) ∷ [])
+unfolding from
+from-more a zero = rw (add-zero a) refl
+from-more a (suc n) =
+    let e : suc a + n ≡ a + suc n = omega arith in
+    ap (λ (l : List ℕ). a ∷ l) (from-more (suc a) n ∙ ap (λ (k : ℕ). from (suc a) n ++ (k ∷ [])) e)
+
+pub gather-append : {A : Type 0} (f : A → List ℕ) (l m : List A) → gather f (l ++ m) ≡ gather f l ++ gather f m
+unfolding gather
+gather-append f [] m = refl
+gather-append f (x ∷ l) m = ap (λ (r : List ℕ). f x ++ r) (gather-append f l m) ∙ sym (append-assoc (f x) (gather f l) (gather f m))
+
+module _ (f : ℕ → List ℕ) where
+  pub one-more : (k : ℕ) → gather f (below (k + 1)) ≡ gather f (below k) ++ f k
+  unfolding gather
+  one-more k =
+      let e : 0 + k ≡ k = omega arith in
+      rw (add-one k) (ap (gather f) (from-more 0 k) ∙ gather-append f (from 0 k) ((0 + k) ∷ []) ∙ rw (e, append-nil (f k)) refl)
+
+-- a range in two parts
+pub two-parts : (f : ℕ → List ℕ) (a n : ℕ)
+    → gather f (below (a + n)) ≡ gather f (below a) ++ gather (λ j. f (a + j)) (below n)
+unfolding gather from
+two-parts f a zero = let e : a + 0 ≡ a = omega arith in rw e (sym (append-nil (gather f (below a))))
+two-parts f a (suc n) =
+    let e : a + suc n ≡ a + n + 1 = omega arith in
+    let k : suc n ≡ n + 1 = omega arith in
+    let g : ℕ → List ℕ = λ j. f (a + j) in
+    ap (λ (m : ℕ). gather f (below m)) e ∙ one-more f (a + n)
+    ∙ ap (λ (l : List ℕ). l ++ f (a + n)) (two-parts f a n) ∙ append-assoc (gather f (below a)) (gather g (below n)) (f (a + n))
+    ∙ ap (λ (l : List ℕ). gather f (below a) ++ l) (sym (ap (λ (m : ℕ). gather g (below m)) k ∙ one-more g n))
 
 module _ {A B : Type 0} (f : A → List B) where
   pub gather-i : {x : A} {y : B} {l : List A} → Member x l → Member y (f x) → Member y (gather f l)

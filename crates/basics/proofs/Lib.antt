@@ -1,7 +1,11 @@
 pub mod Finite
+pub mod Flags
 pub mod Gather
 pub mod Integer
 pub mod Mapped
+pub mod Part
 pub mod Search
+pub mod Stores
 pub mod Test
 pub mod Tested
+pub mod Written

@@ -13,6 +13,7 @@ use lib.Dec.{ltb, eqb}
 use borrow.Author.Tests.{lt-ltb, le-ltb, ltb-false, eq-eqb, ne-eqb, not-false}
 use Rattle.basics.specs.Choice.{if_then_else_}
 use Rattle.basics.proofs.Test.{lt-or}
+use Rattle.basics.proofs.Stores.{sets-front}
 use Rattle.lattice.specs.declared.Sizes.{Sizes}
 use Rattle.lattice.specs.Counts.{Sized, largest, sizesFit, points, mostPoints}
 use Rattle.lattice.proofs.Sized.{fits-sized}
@@ -33,7 +34,6 @@ use Rattle.blockfile.specs.Format.{
   read,
   readWhole,
 }
-use Rattle.blockfile.proofs.Stores.{sets-front}
 use Rattle.blockfile.proofs.Outcome.{samples-long, file-cuts-long}
 use Rattle.blockfile.proofs.Longest.{Limited}
 

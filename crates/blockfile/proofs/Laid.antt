@@ -6,9 +6,9 @@ use mathlib.Core.Bool.{true}
 use mathlib.Core.List.{List, _∷_, _++_}
 use lib.ListN.{length, take, drop, replicate, length-replicate, length-drop}
 use lib.Seq.{sets, length-sets, length-take-le}
+use Rattle.basics.proofs.Stores.{sets-append}
 use Rattle.blockfile.specs.declared.Run.{Run}
 use Rattle.blockfile.specs.Format.{fit, lengths, runAt, runsFrom, cutsFrom}
-use Rattle.blockfile.proofs.Stores.{sets-append}
 use Rattle.blockfile.proofs.Left.{runsAfter, runs-all, runs-left, no-runs-left}
 use Rattle.blockfile.proofs.Fitting.{RunFits, fit-head, fit-tail, fit-earlier}
 

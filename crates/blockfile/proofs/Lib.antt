@@ -1,5 +1,4 @@
 pub mod Signed
-pub mod Stores
 pub mod Left
 pub mod Fitting
 pub mod Laid

@@ -1,13 +1,15 @@
--- The papers' cases come out: what `fill`, `locate` and `mend` say of each is what documents 01 and 02 say. Assumes nothing.
+-- The papers' cases come out: what `fill`, `locate`, `mend` and `number` say of each is what documents 01 and 02 say. Assumes nothing.
 use mathlib.Core.Path.{_≡_, refl}
 use mathlib.Core.List.{map}
 use Rattle.basics.specs.Lists.{gather}
 use Rattle.mending.specs.Mend.{sizeOf, rounded, held, byteTo, mendedByte, faults, mend}
+use Rattle.numbering.specs.Nodes.{Outcome, used, nodeNumber, nodeOf, node, nodeTable, firstUnplaced, number}
 use Rattle.casebook.specs.cases.Given.{laid, laidRuns, givenSamples, givenCuts, allEntered, changed}
 use Rattle.casebook.specs.cases.Cases.{cases, strange}
 use Rattle.casebook.specs.cases.Nearest.{nearest}
 use Rattle.casebook.specs.cases.Bands.{rodSamples, rod, bands}
 use Rattle.casebook.specs.cases.Mends.{sampled, mendings}
+use Rattle.casebook.specs.cases.Nodes.{Numbering, numberings}
 use Rattle.casebook.specs.cases.Strays.{air, strays}
 use Rattle.casebook.specs.cases.Result.{computed, expected, found, resultOf}
 use Rattle.casebook.proofs.Opened.{definitions}
@@ -41,3 +43,11 @@ mends-come-out = refl
 pub strays-come-out : map computed strays ≡ map expected strays
 unfolding definitions laid laidRuns givenSamples givenCuts changed gather air strays computed expected found resultOf
 strays-come-out = refl
+
+-- document 02, F-6
+abbrev numbersOf : Numbering → Outcome
+numbersOf n = number (n .sizes) (n .cuts) (n .state) (n .rows) (n .nodes)
+
+pub nodes-come-out : map numbersOf numberings ≡ map (λ n. n .outcome) numberings
+unfolding definitions used nodeNumber nodeOf node nodeTable firstUnplaced number laid laidRuns givenSamples givenCuts numberings
+nodes-come-out = refl

@@ -8,6 +8,7 @@ use mathlib.Core.List.{List, [], _++_}
 use borrow.Author.Tests.{le-leb, eqb-true}
 use lib.ListN.{length, getD, length-append}
 use Rattle.basics.specs.Lists.{gather, from, below}
+use Rattle.basics.proofs.Written.{bounded}
 use Rattle.moving.specs.declared.Label.{Label}
 use Rattle.moving.specs.declared.Label.the-variants.{Minus, Zero, Plus}
 use Rattle.moving.specs.Label.{isPlus}
@@ -27,7 +28,6 @@ use Rattle.emit.specs.declared.CubeWeights.{CubeWeights}
 use Rattle.emit.specs.inner.Cubes.{faceAt, faceWeight, lowEnd, highEnd, edgeNumber, quarterOf, quarterWeights}
 use Rattle.emit.specs.inner.Cubes.{KnownCube, SmallCube, counted, total, plusAt, plusCount, unmoved}
 use Rattle.emit.specs.inner.Cubes.{solidCube, cubeCount, cubeWeights, edgeIds, cubeIds, cubeMost, Room}
-use Rattle.emit.proofs.Written.{bounded}
 
 -- the last edge, for any number that is none of the others
 pub last-edge : (e : ℕ) → (e ≡ 0 → ⊥) → (e ≡ 1 → ⊥) → (e ≡ 2 → ⊥) → q3 ≡ quarterAt e

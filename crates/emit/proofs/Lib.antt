@@ -1,4 +1,4 @@
-pub mod Written
+pub mod Room
 pub mod WeightLaws
 pub mod CubeLaws
 pub mod BareLaws

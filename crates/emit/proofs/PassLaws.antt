@@ -7,13 +7,15 @@ use mathlib.Core.List.{List, []}
 use lib.IntN.{ℤ}
 use lib.ListN.{length}
 use Rattle.basics.specs.Lists.{gather, from, below}
+use Rattle.basics.specs.inner.Writing.{Wrote}
+use Rattle.basics.proofs.Written.{bounded, Written, none-written, more-written, index-most, all-written, same-ids}
 use Rattle.lattice.specs.declared.Sizes.{Sizes}
 use Rattle.lattice.specs.Axis.{Axis, along-x, along-y, along-z}
 use Rattle.lattice.specs.Counts.{Sized, largest, corners, points}
 use Rattle.lattice.specs.Point.{linear}
 use Rattle.moving.specs.declared.Label.{Label}
 use Rattle.rows.specs.inner.Corners.{most, axisAt}
-use Rattle.rows.specs.inner.Stencils.{rowsMost, Wrote}
+use Rattle.rows.specs.inner.Stencils.{rowsMost}
 use Rattle.rows.proofs.StencilLaws.{empty}
 use Rattle.emit.specs.declared.Cube.{Cube}
 use Rattle.emit.specs.declared.Pass.{Pass}
@@ -22,7 +24,7 @@ use Rattle.emit.specs.inner.Passes.{movedCube, KnownRun, InPass, Tables,
 use Rattle.emit.specs.inner.Passes.{placedIds, runIds, lineIds, layerIds, passIds, blockIds}
 use Rattle.emit.specs.inner.Passes.{lineMost, layerMost, passMost, strideMost}
 use Rattle.emit.proofs.CubeLaws.{known-within, cube-most, bare-cube}
-use Rattle.emit.proofs.Written.{bounded, Written, none-written, more-written, index-most, room-left, all-written, same-ids}
+use Rattle.emit.proofs.Room.{room-left}
 use Rattle.emit.proofs.Numbers.{pass-in, sizes-are}
 
 -- the corner and the centre that six points are counted from are not beyond them

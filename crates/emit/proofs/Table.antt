@@ -6,6 +6,8 @@ use mathlib.Core.List.{List, [], _∷_, _++_, map}
 use lib.ListN.{length}
 use lib.Seq.{sets, sets-eq}
 use Rattle.basics.specs.Lists.{gather, from, below}
+use Rattle.basics.specs.inner.Writing.{Wrote}
+use Rattle.basics.proofs.Gather.{gather-append}
 use Rattle.basics.proofs.Mapped.{gather-same}
 use Rattle.lattice.specs.declared.Sizes.{Sizes}
 use Rattle.lattice.specs.Axis.{Axis, along-x, along-y, along-z}
@@ -20,7 +22,7 @@ use Rattle.stencil.specs.inner.Sign.{signed, winds}
 use Rattle.filling.specs.Mesh.{ids, table}
 use Rattle.filling.specs.Fill.{overwritten}
 use Rattle.rows.specs.inner.Corners.{axisAt, quarterAt, cornerOf}
-use Rattle.rows.specs.inner.Stencils.{tetraIds, Wrote}
+use Rattle.rows.specs.inner.Stencils.{tetraIds}
 use Rattle.rows.proofs.Patterns.{weights}
 use Rattle.rows.proofs.Ids.{idBy, id-is, tetra-is}
 use Rattle.emit.specs.declared.Cube.{Cube}
@@ -28,7 +30,6 @@ use Rattle.emit.specs.inner.Cubes.{cubeWeights, edgeNumber, quarterOf, q
 use Rattle.emit.specs.inner.Passes.{movedCube, firstCorner, firstCentre, stepBy, passOf}
 use Rattle.emit.specs.inner.Passes.{placedIds, runIds, lineIds, layerIds, passIds, blockIds}
 use Rattle.emit.specs.inner.Mesh.{signedRows, rowTotal, signedTable}
-use Rattle.emit.proofs.Written.{gather-append}
 use Rattle.emit.proofs.Numbers.{cubeOf, tetrahedron, numbers-are, counts-are, sizes-are}
 
 -- parts of parts

@@ -14,13 +14,14 @@ ghost use mathlib.Core.Path.{_≡_};
 ghost use Prim.Native.Nat.{_+_, _<_, _≤_};
 ghost use lib.ListN.{length, getD};
 ghost use Rattle.basics.specs.Lists.{gather, below};
+ghost use Rattle.basics.specs.inner.Writing.{Wrote};
 ghost use Rattle.moving.specs.Label.{labelOf, labels};
 ghost use Rattle.moving.specs.Reading.{labelAfter};
 ghost use Rattle.stencil.specs.inner.Sign.{winds};
 ghost use Rattle.ground.specs.inner.Places.{placeAt, InBox, placeBox};
 ghost use Rattle.rows.specs.inner.Corners.{most, quarterAt};
 ghost use Rattle.rows.specs.inner.Picks.{plusWeight, weight};
-ghost use Rattle.rows.specs.inner.Stencils.{rowsMost, Wrote};
+ghost use Rattle.rows.specs.inner.Stencils.{rowsMost};
 ghost use Rattle.emit.specs.inner.Cubes.{cubeWeights, windsWith, quarterOf, quarterWeights, KnownCube, SmallCube, plusAt, plusCount};
 ghost use Rattle.emit.specs.inner.Cubes.{unmoved, solidCube, cubeCount, edgeIds, cubeIds, cubeMost, Room};
 

@@ -1,5 +1,4 @@
 pub mod Sizes
-pub mod Part
 pub mod Mends
 pub mod Site
 pub mod Line

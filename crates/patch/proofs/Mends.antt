@@ -23,7 +23,7 @@ use Rattle.checks.specs.inner.Search.{Throughout}
 use Rattle.checks.specs.inner.Faults.{numberAt}
 use Rattle.patch.specs.declared.Counts.{Counts}
 use Rattle.patch.specs.inner.Mends.{Due, faultBy, fixedBy, faultsBefore, Mends}
-use Rattle.patch.proofs.Part.{back, lent-at, back-long, back-before, back-within, back-after}
+use Rattle.basics.proofs.Part.{back, lent-at, back-long, back-before, back-within, back-after}
 
 abbrev pub counts : ℕ → ℕ → Counts
 counts f c = record { filled = f; cleared = c }

@@ -26,7 +26,7 @@ use Rattle.checks.proofs.Edges.{asked-in, crosses-to}
 use Rattle.patch.specs.declared.Counts.{Counts}
 use Rattle.patch.specs.inner.Mends.{Mends, Ends, sevenDue, pointDue, tableDue}
 use Rattle.patch.proofs.Mends.{same-due, lent-part}
-use Rattle.patch.proofs.Part.{back}
+use Rattle.basics.proofs.Part.{back}
 
 module _ {s : Sizes} {samples : List ℤ} {q : Site} (a : Asked s samples q) {must : List Bool} {far : List ℕ}
     (m : must ≡ crossingsAt s (signs samples) (q .own)) (f : far ≡ endsAt s q) where

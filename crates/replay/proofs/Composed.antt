@@ -7,12 +7,12 @@ use mathlib.Core.List.{List, _++_, append-nil}
 use lib.IntN.{ℤ}
 use lib.ListN.{length, take, drop, replicate, drop-of-length-le}
 use lib.Seq.{sets}
+use Rattle.basics.proofs.Stores.{sets-front}
 use Rattle.basics.proofs.Test.{All₃}
 use Rattle.moving.specs.Block.{blockOf}
 use Rattle.filling.specs.Fill.{fill}
 use Rattle.yakuemi.specs.Measures.{sizes}
 use Rattle.blockfile.specs.Format.{byteAt, fourAt, fileSizes, samplesFrom}
-use Rattle.blockfile.proofs.Stores.{sets-front}
 use Rattle.blockfile.proofs.Outcome.{samples-long}
 use Rattle.replay.specs.declared.Lengths.{Lengths}
 use Rattle.replay.specs.program.Same.{same, untouched, idsFrom}

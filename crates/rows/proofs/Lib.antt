@@ -1,6 +1,5 @@
 pub mod CutTable
 pub mod CornerLaws
-pub mod Sets
 pub mod StencilLaws
 pub mod Patterns
 pub mod Ids

@@ -11,6 +11,8 @@ use lib.Dec.{eqb}
 use borrow.Author.Tests.{lt-leb, ne-eqb}
 use Rattle.basics.specs.Lists.{gather}
 use Rattle.basics.specs.Choice.{if_then_else_}
+use Rattle.basics.specs.inner.Writing.{Wrote}
+use Rattle.basics.proofs.Stores.{sets-append}
 use Rattle.stencil.specs.Tetrahedron.{Vertex, v0, v1, v2, v3}
 use Rattle.stencil.specs.Stencil.{Stencil, no-plus, plus-zero-only, +++-, ++--, ++-0, +---, +--0, +-00, stencilOf}
 use Rattle.rows.specs.declared.Corner.{Corner}
@@ -21,10 +23,9 @@ use Rattle.rows.specs.declared.Order.{Order}
 use Rattle.rows.specs.inner.Corners.{most, axisAt, quarterAt, vertexAt, Known, KnownRow, rowIds}
 use Rattle.rows.specs.inner.Corners.{cornerOf, pointAt, cutAt, startBetween}
 use Rattle.rows.specs.inner.Picks.{sum, picked, chosen, ordered, inversion, isEven}
-use Rattle.rows.specs.inner.Stencils.{lines, turnedRow, stencilRows, KnownRows, none, more, Ready, Wrote}
+use Rattle.rows.specs.inner.Stencils.{lines, turnedRow, stencilRows, KnownRows, none, more, Ready}
 use Rattle.rows.specs.inner.Stencils.{allIds, rowCount, tetraIds, KnownTetra, InOrder, solid, tetraMost}
 use Rattle.rows.proofs.CornerLaws.{way-lt}
-use Rattle.rows.proofs.Sets.{sets-append}
 
 -- as many rows as the table has
 lines-count : {A B : Type 0} (point : ℕ → A) (cut : ℕ → ℕ → A) (row : Bool → A → A → A → A → B) (st : Stencil) (o : Order) (k : Bool)
@@ -166,7 +167,7 @@ module _ (n : ℕ) (l : List ℕ) (i : ℕ) (a : Row) where
   pub then-rows : (rs : List Row) (mid now : List ℕ) (to : ℕ) → mid ≡ sets l i (rowIds n a) → to ≡ i + 4
       → now ≡ sets mid to (allIds n rs) → now ≡ sets l i (allIds n (a ∷ rs))
   unfolding allIds gather rowIds
-  then-rows rs mid now to e g f = f ∙ rw (e, g) (sym (sets-append (rowIds n a) (allIds n rs) l i))
+  then-rows rs mid now to e g f = f ∙ rw (e, g) (sym (sets-append l i (rowIds n a) (allIds n rs)))
 
 -- an order that is made of corners stays among them
 pub record Among (o : Order) : Type 0 where

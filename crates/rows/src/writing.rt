@@ -11,8 +11,9 @@ ghost use mathlib.Core.Bool.{Bool·beq};
 ghost use Prim.Native.Nat.{_+_, _≤_};
 ghost use lib.ListN.{length};
 ghost use lib.Seq.{sets};
+ghost use Rattle.basics.specs.inner.Writing.{Wrote};
 ghost use Rattle.rows.specs.inner.Corners.{most};
-ghost use Rattle.rows.specs.inner.Stencils.{listed, Ready, allIds, KnownTetra, tetraIds, Small, tetraMost, rowsMost, Wrote, solid};
+ghost use Rattle.rows.specs.inner.Stencils.{listed, Ready, allIds, KnownTetra, tetraIds, Small, tetraMost, rowsMost, solid};
 
 fn write(rows: &mut [u32], at: usize, n: usize, r: Rows)
     requires { ⌜ Ready n (listed r) (length (now rows)) at ⌝ }

@@ -59,6 +59,12 @@ static void print_place_mm(uint32_t id, double mm)
            p.point.y, p.point.z);
 }
 
+static void print_first_row(const char *what, const uint32_t *rows)
+{
+    printf("%s: %lu %lu %lu %lu\n", what, (unsigned long)rows[0], (unsigned long)rows[1], (unsigned long)rows[2],
+           (unsigned long)rows[3]);
+}
+
 /* Asks for T with no room at all, then lends a table of just that length. */
 static int fill_and_print(void)
 {
@@ -69,8 +75,7 @@ static int fill_and_print(void)
     if (rows == NULL)
         return EXIT_FAILURE;
     print_filled("filled", fill(rows, 4 * (size_t)asked.rows));
-    printf("first row: %lu %lu %lu %lu\n", (unsigned long)rows[0], (unsigned long)rows[1], (unsigned long)rows[2],
-           (unsigned long)rows[3]);
+    print_first_row("first row", rows);
     for (int i = 0; i < 4; i++)
         print_place(rows[i]);
     for (int i = 0; i < 4; i++)
@@ -187,6 +192,60 @@ static void print_mending(void)
     print_filled("filled", fill(rows, 96));
 }
 
+static struct yakuemi_numbered number(uint32_t *rows, size_t length, uint32_t *nodes, size_t room)
+{
+    return yakuemi_nodes(SIZE, SIZE, SIZE, cuts, sizeof cuts, state, sizeof state, rows, length, nodes, room);
+}
+
+static void print_numbered(const char *what, struct yakuemi_numbered n)
+{
+    printf("%s: answer %u, nodes %lu, place %lu\n", what, (unsigned)n.number, (unsigned long)n.nodes, (unsigned long)n.place);
+}
+
+/* Asks for the nodes with no room at all, then lends a table of just that length, and puts the ids back. */
+static int number_and_print(void)
+{
+    uint32_t rows[96], none = 0;
+    given_case();
+    print_filled("filled", fill(rows, 96));
+    struct yakuemi_numbered asked = number(rows, 96, &none, 0);
+    print_numbered("no room for nodes", asked);
+    uint32_t *nodes = malloc(4 * (size_t)asked.nodes * sizeof *nodes);
+    if (nodes == NULL)
+        return EXIT_FAILURE;
+    print_numbered("numbered", number(rows, 96, nodes, 4 * (size_t)asked.nodes));
+    for (size_t k = 0; k < 3; k++)
+        printf("node %lu: id %lu, (%lu, %lu, %lu)\n", (unsigned long)k, (unsigned long)nodes[4 * k], (unsigned long)nodes[4 * k + 1],
+               (unsigned long)nodes[4 * k + 2], (unsigned long)nodes[4 * k + 3]);
+    print_first_row("first row", rows);
+    for (size_t i = 0; i < 96; i++)
+        rows[i] = nodes[4 * rows[i]];
+    print_first_row("its ids again", rows);
+    free(nodes);
+    return EXIT_SUCCESS;
+}
+
+/* No rows at all; then rows and node tables that are refused: one thing wrong at a time, then several at once. */
+static void print_numbering_refusals(void)
+{
+    uint32_t rows[96], nodes[60];
+    fill(rows, 96);
+    print_numbered("no rows, no room", number(rows, 0, nodes, 0));
+    print_numbered("95 numbers of rows", number(rows, 95, nodes, 60));
+    print_numbered("room for 59 numbers", number(rows, 96, nodes, 59));
+    const uint32_t id = rows[50];
+    rows[50] = 8 * POINTS;
+    print_numbered("entry 50 is 280", number(rows, 96, nodes, 60));
+    rows[50] = id;
+    rows[7] = 12;
+    state[12] = 15;
+    print_numbered("entry 7 is 12, whose state byte is 15", number(rows, 96, nodes, 60));
+    rows[50] = 8 * POINTS;
+    print_numbered("both, no room", number(rows, 96, nodes, 0));
+    print_numbered("both, no room, 95 numbers of rows", number(rows, 95, nodes, 0));
+    state[12] = 0;
+}
+
 int main(void)
 {
     struct yakuemi_measures m = yakuemi_measures(SIZE, SIZE, SIZE);
@@ -202,5 +261,8 @@ int main(void)
     print_refusals();
     print_readings();
     print_mending();
+    if (number_and_print() != EXIT_SUCCESS)
+        return EXIT_FAILURE;
+    print_numbering_refusals();
     return EXIT_SUCCESS;
 }

@@ -1,10 +1,8 @@
 -- The table of patterns and rows over the corners that the code holds, and the ids that are written.
 use Prim.Native.Nat.{ℕ, _+_, _*_, _≤_, _<_}
-use mathlib.Core.Path.{_≡_}
 use mathlib.Core.Bool.{Bool, not, Bool·beq}
 use mathlib.Core.List.{List, [], _∷_}
 use lib.ListN.{length}
-use lib.Seq.{sets}
 use Rattle.basics.specs.Lists.{gather}
 use Rattle.lattice.specs.Counts.{largest}
 use Rattle.stencil.specs.Stencil.{Stencil, no-plus, plus-zero-only, +++-, ++--, ++-0, +---, +--0, +-00, stencilOf}
@@ -73,11 +71,6 @@ pub record Ready (n : ℕ) (rows : List Row) (m at : ℕ) : Type 0 where
   pub few : n ≤ most
   pub known : KnownRows n rows
   pub room : at + 4 * length rows ≤ m
-
--- ids written into a table from an index on: what it then holds, and the index after them
-pub record Wrote (ids l : List ℕ) (at : ℕ) (now : List ℕ) (to : ℕ) : Type 0 where
-  pub now-is : now ≡ sets l at ids
-  pub to-is : to ≡ at + length ids
 
 -- how many rows a stencil has
 unfoldable pub rowCount : Stencil → ℕ

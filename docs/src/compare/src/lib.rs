@@ -1,10 +1,11 @@
 //! Tests that hold the proved library against the separate software: see `tests/`.
 use reference::block::Block;
-use reference::damage::Call;
+use reference::damage::{Call, NodesCall, NodesOutcome};
 use reference::fill::Filled;
 use reference::generate::any_band;
 use reference::lattice::Lattice;
 use reference::mend::Mended;
+use reference::nodes::{Numbered, Numbering};
 use reference::place::place;
 use reference::random::Random;
 
@@ -38,6 +39,16 @@ pub fn mend(nx: u32, ny: u32, nz: u32, samples: &[i16], cuts: &mut [u8]) -> Mend
         number: m.number,
         filled: m.filled,
         cleared: m.cleared,
+    }
+}
+
+/// The library's node table with the separate software's types.
+pub fn nodes(nx: u32, ny: u32, nz: u32, cuts: &[u8], state: &[u8], rows: &mut [u32], nodes: &mut [u32]) -> Numbered {
+    let n = yakuemi::raw::nodes([nx, ny, nz], cuts, state, rows, nodes);
+    Numbered {
+        number: n.number,
+        nodes: n.nodes,
+        place: n.place,
     }
 }
 
@@ -90,6 +101,21 @@ pub fn same_mending(block: &mut Block) -> Mended {
     assert_eq!(ours, reference::mend::mend(nx, ny, nz, samples, &mut theirs), "{nx} by {ny} by {nz}");
     let differs = cuts.iter().zip(&theirs).position(|(ours, theirs)| ours != theirs);
     assert_eq!(differs, None, "the byte that differs, {nx} by {ny} by {nz}");
+    ours
+}
+
+/// Makes a call for the node table by the library and by the separate software, with row tables of up to a million entries by both its
+/// versions, with longer ones by the fast one: answer, row table and node table are the same. Gives them.
+pub fn same_numbering(call: &NodesCall) -> NodesOutcome {
+    let ours = call.run(nodes);
+    let versions: [Numbering; 2] = [reference::nodes::nodes, reference::plain::nodes];
+    let asked = if call.rows.len() > 1_000_000 { &versions[..1] } else { &versions };
+    for theirs in asked.iter().map(|&version| call.run(version)) {
+        let differs = |a: &[u32], b: &[u32]| a.iter().zip(b).position(|(a, b)| a != b);
+        assert_eq!(ours.numbered, theirs.numbered, "{:?}, {} entries", call.sizes, call.rows.len());
+        assert_eq!(differs(&ours.rows, &theirs.rows), None, "the entry of the row table that differs, {:?}", call.sizes);
+        assert_eq!(differs(&ours.nodes, &theirs.nodes), None, "the number of the node table that differs, {:?}", call.sizes);
+    }
     ours
 }
 

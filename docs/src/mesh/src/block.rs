@@ -1,4 +1,4 @@
-//! Reading, mending and filling a block file through the library.
+//! Reading, mending and filling a block file and numbering its nodes, through the library.
 
 use crate::{Mesh, Point};
 use yakuemi::{Mending, Refusal};
@@ -56,21 +56,36 @@ pub fn fill(block: &Block, band: u32) -> Result<Filled, Refusal> {
     Ok(Filled { state, rows })
 }
 
+/// The rows of a filled block with node numbers for ids, and its node table.
+pub struct Numbered {
+    /// The nodes of the rows, numbered from 0, four a row.
+    pub rows: Vec<u32>,
+    /// The id and the place of each node, four numbers a node.
+    pub nodes: Vec<u32>,
+}
+
+/// Numbers the nodes of a filled block: asks how many it has, then lends a table of just that length.
+pub fn number(block: &Block, filled: &Filled) -> Result<Numbered, Refusal> {
+    let (mut rows, mut nodes) = (filled.rows.clone(), Vec::new());
+    if let Err(refusal) = yakuemi::nodes(block.sizes, &block.cuts, &filled.state, &mut rows, &mut nodes) {
+        let Refusal::NodeTable { nodes: count } = refusal else {
+            return Err(refusal);
+        };
+        nodes = vec![0; 4 * count as usize];
+        yakuemi::nodes(block.sizes, &block.cuts, &filled.state, &mut rows, &mut nodes)?;
+    }
+    Ok(Numbered { rows, nodes })
+}
+
 /// The mesh of a filled block at a unit: its nodes are the ids that the rows name, ascending.
 pub fn mesh(block: &Block, filled: &Filled, unit: f64) -> Result<Mesh, Refusal> {
     let place = |id: u32| yakuemi::place_mm(block.sizes, &block.cuts, &filled.state, id, unit);
     // the first point of a filled block always has a place, so a unit is refused also where there is no row
     place(0)?;
-    let mut ids = filled.rows.clone();
-    ids.sort_unstable();
-    ids.dedup();
-    let nodes = ids.iter().map(|&id| place(id)).collect::<Result<Vec<Point>, Refusal>>()?;
-    let mut node_of = vec![0; ids.last().map_or(0, |&id| id as usize + 1)];
-    for (node, &id) in ids.iter().enumerate() {
-        node_of[id as usize] = node;
-    }
-    let (rows, _) = filled.rows.as_chunks::<4>();
-    let elements = rows.iter().map(|row| row.map(|id| node_of[id as usize])).collect();
+    let Numbered { rows, nodes } = number(block, filled)?;
+    let ((rows, _), (nodes, _)) = (rows.as_chunks::<4>(), nodes.as_chunks::<4>());
+    let nodes = nodes.iter().map(|&[id, ..]| place(id)).collect::<Result<Vec<Point>, Refusal>>()?;
+    let elements = rows.iter().map(|row| row.map(|node| node as usize)).collect();
     Ok(Mesh { nodes, elements })
 }
 

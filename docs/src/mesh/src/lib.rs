@@ -2,13 +2,13 @@
 //!
 //! | Module | Meaning |
 //! |---|---|
-//! | [`block`] | reading, mending and filling a block file through the library |
+//! | [`block`] | reading, mending and filling a block file and numbering its nodes, through the library |
 //! | [`vtk`], [`gmsh`], [`abaqus`] | the mesh as text, and read back from it |
 //! | [`view`], [`picture`], [`png`] | the mesh as a picture, cut open |
 //!
 //! All three formats number a tetrahedron's corners so that the fourth lies on the side to which the first three turn
 //! counter-clockwise: (b-a) x (c-a) . (d-a) is above zero. The library's rows have that already, so they are written as they are. So are
-//! the coordinates: the library answers them in the unit that is asked for.
+//! the coordinates: the library answers them in the unit that is asked for. It also numbers the nodes, from 0 on.
 
 #![forbid(unsafe_code)]
 

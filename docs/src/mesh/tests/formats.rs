@@ -13,7 +13,10 @@ fn checked(given: &Block, band: u32) -> Mesh {
     let mesh = block::mesh_of_file(&write(given).unwrap(), band, CUBES).unwrap();
     let rows = fill_block(given, band).rows;
     assert_eq!(mesh.elements.len(), rows.len() / 4);
-    assert_eq!(mesh.nodes.len(), rows.iter().collect::<HashSet<_>>().len());
+    // nodes are the ids in ascending order, so putting these back yields the rows
+    let ids: Vec<u32> = BTreeSet::from_iter(&rows).into_iter().copied().collect();
+    assert_eq!(mesh.nodes.len(), ids.len());
+    assert!(mesh.elements.as_flattened().iter().map(|&node| ids[node]).eq(rows));
     let formats = [vtk::read(&vtk::write(&mesh)), gmsh::read(&gmsh::write(&mesh)), abaqus::read(&abaqus::write(&mesh))];
     for read in formats {
         let read = read.expect("a file that can be read back");

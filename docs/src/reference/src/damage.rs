@@ -1,16 +1,23 @@
-//! Calls of filling and of mending that must be refused, and why.
+//! Calls of filling and of mending that must be refused, and why; and calls for
+//! the node table of all kinds.
 //!
 //! Each refusal of filling (document 01, "Calls and refusals": 1 to 7 and 10;
 //! document 02, request F-3: 14) has one kind of damage, and mending (request
 //! F-4) shares the first of them. Several damages can be done to one call, to
-//! see in which order the refusals come.
+//! see in which order the refusals come. The node table (request F-6) is asked
+//! of any row table, so its calls are good ones and others alike.
 
 use crate::block::Block;
+use crate::blockfile::fill_block;
 use crate::fill::Filled;
+use crate::generate::{any_band, any_block, crowded_block, flickering_block, LIMIT_BYTES};
 use crate::lattice::Lattice;
+use crate::nodes::{Numbered, Numbering};
+use crate::place::place;
 use crate::plain;
 use crate::random::Random;
 use crate::refusal;
+use crate::shapes;
 
 /// The inputs of one call of filling; of the lent tables only the lengths.
 #[derive(Clone, Debug)]
@@ -247,5 +254,348 @@ fn spoil_length<T: Clone>(random: &mut Random, table: &mut Vec<T>, more: T) {
             table.pop();
         }
         _ => table.clear(),
+    }
+}
+
+/// The inputs of one call for the node table, with both lent tables as they are
+/// lent.
+#[derive(Clone, Debug, PartialEq, Eq)]
+pub struct NodesCall {
+    /// nx, ny, nz.
+    pub sizes: [u32; 3],
+    /// The cut table.
+    pub cuts: Vec<u8>,
+    /// The state table.
+    pub state: Vec<u8>,
+    /// The row table: any numbers.
+    pub rows: Vec<u32>,
+    /// The node table, full of noise.
+    pub nodes: Vec<u32>,
+}
+
+/// The answer of a call for the node table and the two lent tables after it.
+#[derive(Clone, Debug, PartialEq, Eq)]
+pub struct NodesOutcome {
+    /// The answer.
+    pub numbered: Numbered,
+    /// The row table.
+    pub rows: Vec<u32>,
+    /// The node table.
+    pub nodes: Vec<u32>,
+}
+
+/// A call for the node table: of a filled block with its own rows, or of other
+/// rows with ids in any order; with ids that have no place first, last or in the
+/// middle; with state and cut bytes that filling did not leave; with tables of
+/// any length and sizes that are not allowed; or with several of these at once.
+/// Blocks have sizes up to 6, now and then up to 12.
+pub fn nodes_call(random: &mut Random) -> NodesCall {
+    let mut call = NodesCall::of_any_block(random);
+    match random.below(10) {
+        0..3 => call.spoil_some_codes(random),
+        3 => call.spoil_all_codes(random),
+        4 => call.spoil_cuts(random),
+        5 if random.percent(50) => call.sizes.rotate_left(1),
+        _ => {}
+    }
+    call.draw_rows(random);
+    if random.percent(30) {
+        call.spoil_entries(random);
+    }
+    // In one call of four a length or a size is off, or several.
+    let chance = random.pick(&[0, 0, 0, 30]);
+    call.spoil_lengths(random, chance);
+    if random.percent(chance) {
+        call.spoil_size(random);
+    }
+    call.draw_nodes(random);
+    call
+}
+
+impl NodesCall {
+    /// The call of a filled block: its rows, and a node table with `spare`
+    /// numbers too many. The block must not be refused.
+    pub fn of_block(random: &mut Random, block: Block, band: u32, spare: usize) -> NodesCall {
+        let tables = fill_block(&block, band);
+        assert_eq!(tables.filled.number, refusal::NONE, "a block to be filled");
+        let mut call = NodesCall {
+            sizes: block.sizes,
+            cuts: block.cuts,
+            state: tables.state,
+            rows: tables.rows,
+            nodes: Vec::new(),
+        };
+        call.set_node_length(random, 4 * call.ids_in_use().len() + spare);
+        call
+    }
+
+    /// The call of the sphere of 64 by 64 by 64 cubes, for timing.
+    pub fn of_sphere() -> NodesCall {
+        NodesCall::of_block(&mut Random::new(64), shapes::sphere(), 0, 0)
+    }
+
+    /// Makes the call over copies of the lent tables.
+    pub fn run(&self, numbering: Numbering) -> NodesOutcome {
+        let [nx, ny, nz] = self.sizes;
+        let (mut rows, mut nodes) = (self.rows.clone(), self.nodes.clone());
+        let numbered = numbering(nx, ny, nz, &self.cuts, &self.state, &mut rows, &mut nodes);
+        NodesOutcome {
+            numbered,
+            rows,
+            nodes,
+        }
+    }
+
+    /// Each id in use once, ascending, whether it has a place or not.
+    pub fn ids_in_use(&self) -> Vec<u32> {
+        let mut ids = self.rows.clone();
+        ids.sort();
+        ids.dedup();
+        ids
+    }
+
+    /// The call of a small filled block, mostly one that has rows.
+    fn of_any_block(random: &mut Random) -> NodesCall {
+        let largest = match random.below(150) {
+            0 => 12,
+            1..=15 => 6,
+            16..=40 => 5,
+            41..=120 => 4,
+            _ => 3,
+        };
+        let call = NodesCall::of_block_up_to(random, largest);
+        if call.rows.is_empty() && random.percent(75) {
+            return NodesCall::of_block_up_to(random, 4);
+        }
+        call
+    }
+
+    fn of_block_up_to(random: &mut Random, largest: u32) -> NodesCall {
+        let block = match random.below(10) {
+            0 | 1 => any_block(random, largest),
+            2..6 => crowded_block(random, largest),
+            _ => flickering_block(random, largest),
+        };
+        let any_band = any_band(random, &block);
+        let band = random.pick(&[0, 0, any_band]);
+        NodesCall::of_block(random, block, band, 0)
+    }
+
+    /// Makes the node table this long, with new noise.
+    fn set_node_length(&mut self, random: &mut Random, length: usize) {
+        self.nodes = (0..length).map(|_| random.bits() as u32).collect();
+    }
+
+    /// Gives some points, mostly such that are in use, another state byte.
+    fn spoil_some_codes(&mut self, random: &mut Random) {
+        let n = self.state.len();
+        for _ in 0..random.pick(&[1, 1, 2, 5]) {
+            let any_point = random.below(n);
+            let in_use = match self.rows[..] {
+                [] => any_point,
+                _ => random.pick(&self.rows) as usize,
+            };
+            let point = if in_use < n { in_use } else { any_point };
+            let code = random.between(0, 14) as u8;
+            self.state[point] = random.pick(&[code, code, code, 15, 16, 128, 255]);
+        }
+    }
+
+    /// Gives all points other state bytes, mostly 0, and all edges, even those
+    /// that do not exist, mostly any byte: each code is then believable here and
+    /// there, and each direction cut.
+    fn spoil_all_codes(&mut self, random: &mut Random) {
+        let stay = random.pick(&[30, 70, 95]);
+        for code in &mut self.state {
+            let other = random.between(1, 16) as u8;
+            *code = if random.percent(stay) { 0 } else { other };
+        }
+        for byte in &mut self.cuts {
+            let any = random.between(1, 255) as u8;
+            let at_limit = random.pick(&LIMIT_BYTES);
+            *byte = random.pick(&[any, any, any, at_limit, 0]);
+        }
+    }
+
+    /// Gives some edges, also such that do not exist, another byte.
+    fn spoil_cuts(&mut self, random: &mut Random) {
+        let chance = random.pick(&[1, 5, 30]);
+        for byte in &mut self.cuts {
+            if random.percent(chance) {
+                let at_limit = random.pick(&LIMIT_BYTES);
+                *byte = random.pick(&[0, 0, at_limit, 128]);
+            }
+        }
+    }
+
+    /// Leaves the rows of the block, or makes others.
+    fn draw_rows(&mut self, random: &mut Random) {
+        // Small blocks often have no rows, and there is not much to see then.
+        let kinds = if self.rows.is_empty() { 10 } else { 20 };
+        match random.below(kinds) {
+            0 => self.rows.clear(),
+            1 | 2 => self.rows = self.any_ids(random),
+            3..7 => self.rows = self.few_ids_often(random),
+            7 | 8 => self.rows = self.all_ids_once(random),
+            9 => self.rows.reverse(),
+            _ => {}
+        }
+    }
+
+    /// The ids that have a place, or those below 8N that have none.
+    fn ids(&self, have_place: bool) -> Vec<u32> {
+        let [nx, ny, nz] = self.sizes;
+        let (cuts, state) = (&self.cuts, &self.state);
+        // Most cut bytes are 0, and these cuts need not be asked for.
+        let is_empty = |id: u32| id as usize >= state.len() && cuts[id as usize - state.len()] == 0;
+        let is_placed = |id: u32| place(nx, ny, nz, cuts, state, id).number == refusal::NONE;
+        let fits = |id: &u32| (!is_empty(*id) && is_placed(*id)) == have_place;
+        (0..self.first_beyond()).filter(fits).collect()
+    }
+
+    /// 8N, the least number that is no id.
+    fn first_beyond(&self) -> u32 {
+        8 * self.state.len() as u32
+    }
+
+    /// Some rows of ids anywhere, up to the largest 32-bit number.
+    fn any_ids(&self, random: &mut Random) -> Vec<u32> {
+        let beyond = self.first_beyond();
+        let with_place = self.ids(true);
+        let length = 4 * random.between(1, 5);
+        let any_id = |_| match random.below(8) {
+            0 => random.bits() as u32,
+            1 => random.pick(&[beyond - 1, beyond, beyond + 1, u32::MAX]),
+            2 => random.below(beyond as usize) as u32,
+            _ => pick_or(random, &with_place, 0),
+        };
+        (0..length).map(any_id).collect()
+    }
+
+    /// Up to 40 rows of few or many different ids that have places, in any
+    /// order.
+    fn few_ids_often(&self, random: &mut Random) -> Vec<u32> {
+        let with_place = self.ids(true);
+        let different = random.pick(&[1, 3, 10, 100]);
+        let few: Vec<u32> = (0..different)
+            .map(|_| pick_or(random, &with_place, 0))
+            .collect();
+        let length = 4 * random.between(1, 40);
+        (0..length).map(|_| random.pick(&few)).collect()
+    }
+
+    /// Every id that has a place, ascending, descending or in any order, and the
+    /// last again to make whole rows.
+    fn all_ids_once(&self, random: &mut Random) -> Vec<u32> {
+        let mut ids = self.ids(true);
+        match random.below(3) {
+            0 => {}
+            1 => ids.reverse(),
+            _ => shuffle(random, &mut ids),
+        }
+        let last = ids.last().copied().unwrap_or(0);
+        ids.resize(ids.len().next_multiple_of(4), last);
+        ids
+    }
+
+    /// Puts one or more ids without a place first, last, in the middle or
+    /// anywhere.
+    fn spoil_entries(&mut self, random: &mut Random) {
+        if random.percent(40) {
+            let point = random.below(self.state.len());
+            self.state[point] = random.pick(&[15, 16, 128, 255]);
+        }
+        let without = self.ids(false);
+        let length = self.rows.len();
+        if length == 0 {
+            return;
+        }
+        for _ in 0..random.pick(&[1, 1, 1, 2, 4]) {
+            let anywhere = random.below(length);
+            let index = random.pick(&[0, length / 2, length - 1, length - 1, anywhere]);
+            self.rows[index] = self.without_place(random, &without);
+        }
+    }
+
+    /// An id without a place: no id at all, a point whose code is not
+    /// believable, a cut whose byte is not 0, or any other cut.
+    fn without_place(&self, random: &mut Random, without: &[u32]) -> u32 {
+        let n = self.state.len();
+        let beyond = self.first_beyond();
+        let is_point = |id: &u32| (*id as usize) < n;
+        let is_cut = |id: &u32| !is_point(id) && self.cuts[*id as usize - n] != 0;
+        let fitting: Vec<u32> = match random.below(5) {
+            0 => vec![beyond, beyond + 1, random.bits() as u32 | 1 << 31, u32::MAX],
+            1 | 2 => without.iter().copied().filter(is_point).collect(),
+            3 => without.iter().copied().filter(is_cut).collect(),
+            _ => without.to_vec(),
+        };
+        pick_or(random, &fitting, beyond)
+    }
+
+    /// Makes the cut table, the state table and the row table too long or too
+    /// short, each this many times out of a hundred, the last more often as it is
+    /// looked at last.
+    fn spoil_lengths(&mut self, random: &mut Random, chance: usize) {
+        let n = self.state.len();
+        if random.percent(chance + chance / 2) {
+            let whole = self.rows.len();
+            let length = random.pick(&[whole + 1, whole + 2, whole + 3, whole.max(4) - 1]);
+            self.rows.resize(length, random.bits() as u32);
+        }
+        if random.percent(chance) {
+            let length = random.pick(&[0, 7 * n - 1, 7 * n + 1, n, 7 * n + 7, 8 * n]);
+            self.cuts.resize(length, random.bits() as u8);
+        }
+        if random.percent(chance) {
+            let length = random.pick(&[0, n - 1, n + 1, 7 * n]);
+            self.state.resize(length, random.bits() as u8);
+        }
+    }
+
+    /// Makes a size one that is not allowed, and mostly both tables as long as
+    /// they would have to be if it were.
+    fn spoil_size(&mut self, random: &mut Random) {
+        let axis = random.below(3);
+        if random.percent(40) {
+            self.sizes[axis] = random.pick(&[255, 256, 1 << 16, 1 << 31, u32::MAX]);
+            return;
+        }
+        self.sizes[axis] = random.pick(&[0, 65, 66]);
+        let n = count_points(self.sizes);
+        self.cuts.resize(7 * n, 128);
+        self.state.resize(n, 0);
+    }
+
+    /// Makes the node table too short by one number, by one node or by more, or
+    /// exact, or too long.
+    fn draw_nodes(&mut self, random: &mut Random) {
+        let exact = 4 * self.ids_in_use().len();
+        let length = match random.below(12) {
+            0 => exact.saturating_sub(1),
+            1 => exact.saturating_sub(4),
+            2 => 0,
+            3 => random.below(exact + 1),
+            4..8 => exact,
+            8 => exact + 1,
+            9 => exact + 4,
+            _ => exact + random.between(2, 40) as usize,
+        };
+        self.set_node_length(random, length);
+    }
+}
+
+/// One of the choices, or another number if there are none.
+fn pick_or(random: &mut Random, choices: &[u32], other: u32) -> u32 {
+    match choices {
+        [] => other,
+        _ => random.pick(choices),
+    }
+}
+
+/// Puts the numbers into any order.
+fn shuffle(random: &mut Random, numbers: &mut [u32]) {
+    for n in (1..numbers.len()).rev() {
+        numbers.swap(n, random.below(n + 1));
     }
 }

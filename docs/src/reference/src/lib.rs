@@ -1,6 +1,6 @@
 //! An independent reference implementation of document 01, "Stuffing a
 //! scanned block with tetrahedra" (uniform isosurface stuffing), and of
-//! requests F-1 to F-5 of document 02, "Customer requests after the base".
+//! requests F-1 to F-6 of document 02, "Customer requests after the base".
 //!
 //! It was written from these documents, the paper that document 01 cites and
 //! IEEE 754 alone, to be compared with another implementation: in its answers
@@ -14,7 +14,8 @@
 //! | [`fill`] | filling a block with a band, written for speed |
 //! | [`strides`], [`mark`], [`bytes`], [`warp`], [`stencil`], [`emit`] | the steps of the fast filling |
 //! | [`mend`], [`bits`] | mending a cut table, written for speed |
-//! | [`plain`] | filling a block with a band and mending a cut table, sentence by sentence: the oracle |
+//! | [`nodes`] | the node table and the rows as node numbers, written for speed |
+//! | [`plain`] | filling a block with a band, mending a cut table and the node table, sentence by sentence: the oracle |
 //! | [`place`] | measures of a block and the place of an id |
 //! | [`metric`] | the place of an id in millimetres, with floats and without |
 //! | [`block`], [`blockfile`] | a block, its file, the bench program's output |
@@ -26,7 +27,8 @@
 //! pin down; for the rest each has its own code, the labels too, which a band
 //! can make zero since request F-3. [`plain`] also keeps the choice that points
 //! made before request F-2, for comparison. The two mendings share the counts of
-//! points and the seven directions only.
+//! points and the seven directions only, and the two numberings of nodes the
+//! counts of points, the seven directions and the test of violation.
 
 #![forbid(unsafe_code)]
 #![warn(missing_docs)]
@@ -45,6 +47,7 @@ pub mod lattice;
 pub mod mark;
 pub mod mend;
 pub mod metric;
+pub mod nodes;
 pub mod place;
 pub mod plain;
 pub mod random;

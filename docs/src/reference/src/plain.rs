@@ -1,17 +1,21 @@
-//! Filling a block and mending a cut table sentence by sentence: slow, simple,
-//! the oracle.
+//! Filling a block, mending a cut table and the node table sentence by
+//! sentence: slow, simple, the oracle.
 //!
 //! Follows document 01, "The block", "Moving points", "Lattice tetrahedra and
 //! rows" and "Calls and refusals" in their order, and in "Moving points"
-//! requests F-2 and F-3 of document 02; for mending, request F-4. Every number
-//! is decoded, every tetrahedron listed, every corner sorted, every six-volume
-//! computed from the places of the moved points.
+//! requests F-2 and F-3 of document 02; for mending, request F-4; for the node
+//! table, request F-6. Every number is decoded, every tetrahedron listed, every
+//! corner sorted, every six-volume computed from the places of the moved points,
+//! every entry of a row table placed on its own.
 
 use crate::cut::{edge_of_code, place_of_cut, place_of_point, six_volume, violation, Place};
 use crate::fill::Filled;
 use crate::lattice::{Edge, Lattice};
 use crate::mend::Mended;
+use crate::nodes::Numbered;
+use crate::place::{place, Placed};
 use crate::refusal;
+use std::collections::BTreeSet;
 
 /// A corner in a row: a lattice point or the cut of an edge.
 #[derive(Clone, Copy, Debug, PartialEq, Eq)]
@@ -356,4 +360,61 @@ pub fn missing_byte(start: i16, end: i16) -> u8 {
         256 => 255,
         within => within as u8,
     }
+}
+
+/// Writes the node table and rewrites the rows as node numbers; same contract as
+/// [`crate::nodes::nodes`].
+pub fn nodes(
+    nx: u32,
+    ny: u32,
+    nz: u32,
+    cuts: &[u8],
+    state: &[u8],
+    rows: &mut [u32],
+    nodes: &mut [u32],
+) -> Numbered {
+    let Some(lattice) = Lattice::new(nx, ny, nz) else {
+        return Numbered::refused(refusal::SIZE, 0);
+    };
+    let n = lattice.point_count();
+    if cuts.len() != 7 * n {
+        return Numbered::refused(refusal::CUTS, 0);
+    }
+    if state.len() != n {
+        return Numbered::refused(refusal::STATE, 0);
+    }
+    if !rows.len().is_multiple_of(4) {
+        return Numbered::refused(refusal::ROWS, 0);
+    }
+    number_nodes(|id| place(nx, ny, nz, cuts, state, id), rows, nodes)
+}
+
+/// The same for tables of the right lengths; what the place call answers to an
+/// id is given.
+fn number_nodes(
+    place_of_id: impl Fn(u32) -> Placed,
+    rows: &mut [u32],
+    nodes: &mut [u32],
+) -> Numbered {
+    for (index, &id) in rows.iter().enumerate() {
+        let number = place_of_id(id).number;
+        if number != refusal::NONE {
+            return Numbered::refused(number, index);
+        }
+    }
+    let ids: BTreeSet<u32> = rows.iter().copied().collect();
+    if nodes.len() < 4 * ids.len() {
+        return Numbered::too_short(ids.len());
+    }
+    let ids: Vec<u32> = ids.into_iter().collect();
+    for (number, &id) in ids.iter().enumerate() {
+        let placed = place_of_id(id);
+        let node = [id, placed.x, placed.y, placed.z];
+        nodes[4 * number..4 * number + 4].copy_from_slice(&node);
+    }
+    for entry in rows {
+        let number = ids.binary_search(entry).expect("an id in use");
+        *entry = number as u32;
+    }
+    Numbered::written(ids.len())
 }

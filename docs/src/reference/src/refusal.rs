@@ -1,5 +1,5 @@
 //! The numbers of the refusals: 1 to 12 from document 01, "Calls and
-//! refusals"; 13 and 14 from document 02, requests F-1 and F-3.
+//! refusals"; 13, 14 and 15 from document 02, requests F-1, F-3 and F-6.
 
 /// No refusal: the call was carried out.
 pub const NONE: u32 = 0;
@@ -21,7 +21,8 @@ pub const STRAY: u32 = 7;
 pub const CORNER: u32 = 8;
 /// The point's state byte is not believable.
 pub const CODE: u32 = 9;
-/// The row table holds fewer than 4T numbers.
+/// The row table holds fewer than 4T numbers, or the node table fewer than four
+/// numbers a node.
 pub const TABLE: u32 = 10;
 /// Malformed block file.
 pub const FILE: u32 = 11;
@@ -31,3 +32,5 @@ pub const BENCH: u32 = 12;
 pub const UNIT: u32 = 13;
 /// The band is above 32767.
 pub const BAND: u32 = 14;
+/// The row table's length is not a multiple of four.
+pub const ROWS: u32 = 15;

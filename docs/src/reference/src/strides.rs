@@ -1,4 +1,4 @@
-//! Walking the lattice by strides, for the fast filling and mending.
+//! Walking the lattice by strides, for the fast filling, mending and numbering.
 //!
 //! The points form two cubic grids, corners and centres (document 01, "The
 //! block"). Along a line of one grid, points with the same Y and Z, every
@@ -157,6 +157,13 @@ impl Line {
         self.own.wide[0]
     }
 
+    /// The doubled coordinates of the line's first point; along the line X
+    /// grows by 2.
+    pub fn first_coordinates(&self) -> [i32; 3] {
+        let odd = usize::from(self.bias > 0);
+        [0, self.j, self.k].map(|index| (2 * index + odd) as i32)
+    }
+
     /// Whether all points of the line are rim points; otherwise only the
     /// first and the last are.
     pub fn is_on_rim(&self) -> bool {
@@ -247,6 +254,8 @@ mod tests {
             let point = line.first + index;
             let at_end = index == 0 || index == line.count() - 1;
             assert_eq!(lattice.is_rim(point), line.is_on_rim() || at_end);
+            let [x, y, z] = line.first_coordinates();
+            assert_eq!(lattice.coordinates(point), [x + 2 * index as i32, y, z]);
             for (n, reach) in line.all_codes().iter().enumerate() {
                 let decoded = if n < 7 {
                     lattice.end(point, n)

@@ -3,7 +3,7 @@
 //! A point of rubber in the middle of 2 by 2 by 2 cubes, with the skin halfway along its fourteen edges:
 //!
 //! ```
-//! use yakuemi::{fill, measures, mend, place, place_mm, Mending, Refusal};
+//! use yakuemi::{fill, measures, mend, nodes, place, place_mm, Mending, Refusal};
 //!
 //! let sizes = [2, 2, 2];
 //! let n = measures(sizes)?.points as usize;
@@ -28,6 +28,23 @@
 //! // in millimetres, for cubes with a side of 2 mm; a unit of zero is refused
 //! assert_eq!(place_mm(sizes, &cuts, &state, 65, 2.0 / 512.0)?, [2.0, 2.0, 1.0]);
 //! assert_eq!(place_mm(sizes, &cuts, &state, 65, 0.0), Err(Refusal::Unit));
+//!
+//! // the ids in use become node numbers from 0; with no room at all the answer says how many there are
+//! assert_eq!(nodes(sizes, &cuts, &state, &mut rows, &mut []), Err(Refusal::NodeTable { nodes: 15 }));
+//! let mut table = vec![0; 4 * 15];
+//! assert_eq!(nodes(sizes, &cuts, &state, &mut rows, &mut table)?, 15);
+//! assert_eq!(rows[..4], [0, 1, 12, 11]);
+//! assert_eq!(table[..8], [13, 512, 512, 512, 65, 512, 512, 256]);
+//! rows.iter_mut().for_each(|corner| *corner = table[4 * *corner as usize]);
+//! assert_eq!(rows[..4], [13, 65, 235, 227]);
+//!
+//! // rows that are not whole; a number that is no id; a point whose state byte is no code
+//! assert_eq!(nodes(sizes, &cuts, &state, &mut rows[..95], &mut table), Err(Refusal::Rows));
+//! assert_eq!(nodes(sizes, &cuts, &state, &mut [13, 65, 280, 227], &mut table), Err(Refusal::CornerAt(2)));
+//! state[13] = 15;
+//! let refusal = nodes(sizes, &cuts, &state, &mut [0, 13, 280, 227], &mut table).unwrap_err();
+//! assert_eq!(refusal, Refusal::CodeAt(1));
+//! assert_eq!(refusal.to_string(), "refused 9 1");
 //!
 //! // in a band of 5 all these samples count as zero, and nothing is left to fill
 //! let filling = fill(sizes, 5, &samples, &cuts, &mut state, &mut rows)?;
@@ -91,6 +108,15 @@ pub mod raw {
         pub z: u32,
     }
 
+    /// The answer of `yakuemi_nodes`.
+    #[repr(C)]
+    #[derive(Clone, Copy, Debug, PartialEq, Eq)]
+    pub struct Numbered {
+        pub number: u32,
+        pub nodes: u64,
+        pub place: u64,
+    }
+
     /// A point in millimetres.
     #[repr(C)]
     #[derive(Clone, Copy, Debug, PartialEq)]
@@ -120,7 +146,7 @@ pub mod raw {
     }
 
     mod c {
-        use super::{Filled, Measures, Mended, Placed, PlacedMm, ReadFile};
+        use super::{Filled, Measures, Mended, Numbered, Placed, PlacedMm, ReadFile};
 
         extern "C" {
             pub fn yakuemi_measures(nx: u32, ny: u32, nz: u32) -> Measures;
@@ -171,6 +197,20 @@ pub mod raw {
                 id: u32,
                 unit: f64,
             ) -> PlacedMm;
+            #[allow(clippy::too_many_arguments)]
+            pub fn yakuemi_nodes(
+                nx: u32,
+                ny: u32,
+                nz: u32,
+                cuts: *const u8,
+                cuts_len: usize,
+                state: *const u8,
+                state_len: usize,
+                rows: *mut u32,
+                rows_len: usize,
+                nodes: *mut u32,
+                nodes_len: usize,
+            ) -> Numbered;
             pub fn yakuemi_read(
                 bytes: *const u8,
                 bytes_len: usize,
@@ -226,6 +266,26 @@ pub mod raw {
         unsafe { c::yakuemi_place_mm(nx, ny, nz, cuts.as_ptr(), cuts.len(), state.as_ptr(), state.len(), id, unit) }
     }
 
+    /// Numbering the nodes of rows, in tables that the caller lends.
+    pub fn nodes(sizes: [u32; 3], cuts: &[u8], state: &[u8], rows: &mut [u32], nodes: &mut [u32]) -> Numbered {
+        let [nx, ny, nz] = sizes;
+        unsafe {
+            c::yakuemi_nodes(
+                nx,
+                ny,
+                nz,
+                cuts.as_ptr(),
+                cuts.len(),
+                state.as_ptr(),
+                state.len(),
+                rows.as_mut_ptr(),
+                rows.len(),
+                nodes.as_mut_ptr(),
+                nodes.len(),
+            )
+        }
+    }
+
     /// Reading a block file, into tables that the caller lends.
     pub fn read(bytes: &[u8], samples: &mut [i16], cuts: &mut [u8]) -> ReadFile {
         unsafe {
@@ -260,10 +320,16 @@ pub enum Refusal {
     Stray(u64),
     /// 8: the id names no corner.
     Corner,
+    /// 8, of [`nodes`]: this entry of the row table names no corner (the first entry without a place).
+    CornerAt(u64),
     /// 9: the point's state byte is not believable.
     Code,
+    /// 9, of [`nodes`]: the state byte of the point at this entry of the row table is not believable (the first entry without a place).
+    CodeAt(u64),
     /// 10: the row table holds fewer than 4T numbers. The state table is filled.
     Table { rows: u64, moved: u64 },
+    /// 10, of [`nodes`]: the node table holds fewer than four numbers for each of so many nodes. Neither table is changed.
+    NodeTable { nodes: u64 },
     /// 11: a malformed block file.
     File,
     /// 12: a lent table is too short for the block of the file.
@@ -272,6 +338,8 @@ pub enum Refusal {
     Unit,
     /// 14: the band is above 32767.
     Band,
+    /// 15: the row table's length is not a multiple of four.
+    Rows,
     /// A number that the called function does not give.
     Other(u32),
 }
@@ -287,21 +355,23 @@ impl Refusal {
             Refusal::Rim(_) => 5,
             Refusal::Gap(_) => 6,
             Refusal::Stray(_) => 7,
-            Refusal::Corner => 8,
-            Refusal::Code => 9,
-            Refusal::Table { .. } => 10,
+            Refusal::Corner | Refusal::CornerAt(_) => 8,
+            Refusal::Code | Refusal::CodeAt(_) => 9,
+            Refusal::Table { .. } | Refusal::NodeTable { .. } => 10,
             Refusal::File => 11,
             Refusal::Room => 12,
             Refusal::Unit => 13,
             Refusal::Band => 14,
+            Refusal::Rows => 15,
             Refusal::Other(number) => number,
         }
     }
 
-    /// The point or the byte at fault, 0 where there is none to name.
+    /// The point, the byte or the entry at fault, 0 where there is none to name.
     pub fn place(self) -> u64 {
         match self {
             Refusal::Rim(place) | Refusal::Gap(place) | Refusal::Stray(place) => place,
+            Refusal::CornerAt(place) | Refusal::CodeAt(place) => place,
             _ => 0,
         }
     }
@@ -439,6 +509,31 @@ fn place_refusal(number: u32) -> Refusal {
         8 => Refusal::Corner,
         9 => Refusal::Code,
         n => Refusal::Other(n),
+    }
+}
+
+/// Numbers the nodes of rows, for programs that refuse ids with holes: each id in the row table is a node once, and nodes have numbers from
+/// 0 on by ascending id. Answers how many there are.
+///
+/// Node k has four numbers in the node table: `nodes[4 * k]` is its id, and the three after it are its [`place`]. Each entry of the row table
+/// becomes its id's node number, so `nodes[4 * rows[i] as usize]` is the id again. Entries of the node table past the last node stay.
+///
+/// The row table is just the rows, four entries each: every entry is taken for an id, so a second call on rewritten rows would take node
+/// numbers for ids. Any rows are taken, not only those that [`fill`] wrote. With an empty node table nothing is written and
+/// [`Refusal::NodeTable`] says how many nodes there are, unless there are none. Four times the row table's length, or 32N if that is less,
+/// always suffices. A refusal changes neither table. The call takes about 122 KiB of stack.
+pub fn nodes(sizes: [u32; 3], cuts: &[u8], state: &[u8], rows: &mut [u32], nodes: &mut [u32]) -> Result<u64, Refusal> {
+    let n = raw::nodes(sizes, cuts, state, rows, nodes);
+    match n.number {
+        0 => Ok(n.nodes),
+        1 => Err(Refusal::Size),
+        3 => Err(Refusal::Cuts),
+        4 => Err(Refusal::State),
+        8 => Err(Refusal::CornerAt(n.place)),
+        9 => Err(Refusal::CodeAt(n.place)),
+        10 => Err(Refusal::NodeTable { nodes: n.nodes }),
+        15 => Err(Refusal::Rows),
+        number => Err(Refusal::Other(number)),
     }
 }
 

@@ -1,12 +1,14 @@
-//! Times filling, mending and places in millimetres beside the separate software: the same blocks, tables and process, turn and turn about.
-//! Tables are lent as the call before left them, to mending as the block has them; the first call of each is not counted. Prints the best
-//! and the middle of the times. `sphere+` is the sphere with a band that takes in a tenth of its points; the others have band 0. `sphere-`
-//! is the sphere with its cut table emptied.
+//! Times filling, mending, places in millimetres and node tables beside the separate software: the same blocks, tables and process, turn and
+//! turn about. Tables are lent as the call before left them, to mending as the block has them, to node tables with the rows that filling
+//! wrote; the first call of each is not counted. Prints the best and the middle of the times. `sphere+` is the sphere with a band that takes
+//! in a tenth of its points; the others have band 0. `sphere-` is the sphere with its cut table emptied. `ask` is a call for the node table
+//! that is lent none, and so answers how many nodes there are.
 use reference::block::Block;
 use reference::blockfile::fill_block;
 use reference::damage::Filling;
 use reference::mend::Mending;
 use reference::metric::place_mm;
+use reference::nodes::Numbering;
 use reference::shapes::{air, emptied, ribs, sphere, tenth_band};
 use std::time::Instant;
 
@@ -112,6 +114,31 @@ fn compare_places_of(name: &str, block: &Block) {
     );
 }
 
+/// The node table of a block: exact or, to ask how many nodes there are, empty. The rows are put back before each call, outside the time.
+fn compare_nodes_of(name: &str, block: &Block) {
+    let (tables, [nx, ny, nz]) = (fill_block(block, 0), block.sizes);
+    let mut rows = tables.rows.clone();
+    let mut timed = |numbering: Numbering, nodes: &mut [u32]| {
+        rows.copy_from_slice(&tables.rows);
+        let began = Instant::now();
+        let numbered = numbering(nx, ny, nz, &block.cuts, &tables.state, &mut rows, nodes);
+        (began.elapsed().as_secs_f64() * 1000.0, numbered)
+    };
+    let (_, asked) = timed(compare::nodes, &mut []);
+    let mut exact = vec![0; 4 * asked.nodes as usize];
+    for (what, number, nodes) in [("node", 0, &mut exact[..]), ("ask", 10, &mut [])] {
+        let [a, b] = turn_about(|| {
+            let ((a, ours), (b, theirs)) = (timed(compare::nodes, nodes), timed(reference::nodes::nodes, nodes));
+            assert_eq!((ours.number, ours), (number, theirs));
+            [a, b]
+        });
+        println!(
+            "{name:7} {:9} {what:4} | library {:7.2} ms best, {:7.2} middle | separate {:7.2} ms best, {:7.2} middle | ratio {:.2}",
+            asked.nodes, a.best, a.middle, b.best, b.middle, a.best / b.best
+        );
+    }
+}
+
 fn main() {
     let sphere = sphere();
     compare_on("sphere", &sphere, 0);
@@ -122,4 +149,5 @@ fn main() {
     compare_mending_of("sphere", &sphere);
     compare_mending_of("air", &air());
     compare_places_of("sphere", &sphere);
+    compare_nodes_of("sphere", &sphere);
 }

@@ -4,7 +4,7 @@ use mathlib.Core.Path.{_≡_, refl, sym, _∙_}
 use native.Mathlib.Omega.{arith}
 use lib.ListN.{length, length-set, replicate}
 use lib.Seq.{sets}
-use Rattle.blockfile.proofs.Stores.{store-next, store-none}
+use Rattle.basics.proofs.Stores.{store-next, store-none}
 use Rattle.blockfile.proofs.Left.{zeros-left, no-zeros-left}
 use Rattle.blockfile.proofs.cuts.clear.Statement.{statement}
 use Rattle.blockfile.proofs.cuts.clear.Tie as tie

@@ -5,7 +5,7 @@ use native.Mathlib.Omega.{arith}
 use native.Mathlib.Nat.{add-zero, add-assoc}
 use lib.ListN.{length, length-set, drop, drop-of-length-le}
 use lib.Seq.{sets}
-use Rattle.blockfile.proofs.Stores.{store-next, store-none}
+use Rattle.basics.proofs.Stores.{store-next, store-none}
 use Rattle.blockfile.proofs.Left.{part-left}
 use Rattle.blockfile.proofs.cuts.copy.Statement.{statement}
 use Rattle.blockfile.proofs.cuts.copy.Tie as tie

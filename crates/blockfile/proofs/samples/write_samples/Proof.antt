@@ -7,8 +7,8 @@ use lib.ListN.{length, length-set}
 use lib.Seq.{sets}
 use mir.Syntax.{w16}
 use mir.ValLaws.{toZ-ofZ}
+use Rattle.basics.proofs.Stores.{store-next, store-none}
 use Rattle.blockfile.specs.Format.{signed, samplesFrom}
-use Rattle.blockfile.proofs.Stores.{store-next, store-none}
 use Rattle.blockfile.proofs.Left.{samples-left, no-samples-left}
 use Rattle.blockfile.proofs.samples.write_samples.Statement.{statement}
 use Rattle.blockfile.proofs.samples.write_samples.Tie as tie

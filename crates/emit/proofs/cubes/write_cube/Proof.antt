@@ -1,6 +1,6 @@
 -- Nothing without a plus; four rows where six points are plus and have not moved; else by the labels. Assumes nothing.
+use Rattle.basics.proofs.Written.{nothing, same-ids}
 use Rattle.emit.proofs.CubeLaws.{known-as, cube-as, cube-room, bare-cube, bare-after, solid-is, solid-after}
-use Rattle.emit.proofs.Written.{nothing, same-ids}
 use mathlib.Core.Path.{sym, _∙_}
 use borrow.Author.Needs.{needs}
 use Rattle.emit.proofs.cubes.write_cube.Statement.{statement}

@@ -1,7 +1,8 @@
 -- Into an empty table rows are only counted. Else four tetrahedra, one after the other: what is written so
 -- far is what the edges so far give. Assumes nothing.
+use Rattle.basics.proofs.Written.{same-ids, Written, none-written, more-written, fits-left, index-most, kept-long, all-written}
 use Rattle.emit.proofs.CubeLaws.{known-as, edge-is, edge-known, edge-small, edge-most, cube-as, cube-room, cube-counted}
-use Rattle.emit.proofs.Written.{same-ids, Written, none-written, more-written, fits-left, only-counted, index-most, kept-long, all-written}
+use Rattle.emit.proofs.Room.{only-counted}
 use Rattle.rows.specs.inner.Stencils.{tetraMost}
 use Rattle.emit.specs.inner.Cubes.{edgeIds}
 use Prim.Native.Nat.{_-_, _≤_}

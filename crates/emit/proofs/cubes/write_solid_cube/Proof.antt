@@ -1,8 +1,9 @@
 -- Four rows, one after the other, or counted into an empty table. Assumes nothing.
+use Rattle.basics.proofs.Written.{Written, none-written, more-written, index-most, kept-long, all-written}
 use Rattle.rows.specs.inner.Corners.{quarterAt}
 use Rattle.rows.proofs.StencilLaws.{solid-long}
 use Rattle.emit.proofs.CubeLaws.{edge-known, solid-quarter, solid-edge, solid-edge-most, solid-cube-long}
-use Rattle.emit.proofs.Written.{Written, none-written, more-written, room-left, index-most, only-counted, kept-long, all-written}
+use Rattle.emit.proofs.Room.{room-left, only-counted}
 use Rattle.emit.specs.inner.Cubes.{edgeIds, solidCube}
 use Prim.Native.Nat.{_-_, _≤_}
 use native.Mathlib.Omega.{arith}

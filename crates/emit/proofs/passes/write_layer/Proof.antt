@@ -1,6 +1,7 @@
 -- Lines, one after the other. Assumes nothing.
+use Rattle.basics.proofs.Written.{Written, none-written, more-written, index-most, kept-long, all-written}
 use Rattle.emit.proofs.PassLaws.{line-most}
-use Rattle.emit.proofs.Written.{Written, none-written, more-written, room-left, index-most, kept-long, all-written}
+use Rattle.emit.proofs.Room.{room-left}
 use Rattle.emit.specs.inner.Passes.{lineIds, layerIds, lineMost}
 use Rattle.moving.specs.Label.{labels}
 use Rattle.moving.specs.Reading.{labelAfter}

@@ -1,6 +1,6 @@
 -- A line is a run from its first cube on. Assumes nothing.
+use Rattle.basics.proofs.Written.{same-ids}
 use Rattle.lattice.proofs.Bounds.{corners-small}
-use Rattle.emit.proofs.Written.{same-ids}
 use Rattle.emit.proofs.PassLaws.{line-known, line-is, line-room}
 use native.Mathlib.Omega.{arith}
 use borrow.Author.Needs.{needs}

@@ -1,7 +1,8 @@
 -- Nothing where no cube has a plus; else cubes, one after the other along x. Assumes nothing.
+use Rattle.basics.proofs.Written.{nothing, Written, none-written, more-written, index-most, kept-long, all-written}
 use Rattle.emit.proofs.PassLaws.{run-from, run-within, run-known, run-as, placed-is, placed-most, bare-run-ids}
 use Rattle.emit.proofs.CubeLaws.{bare-after}
-use Rattle.emit.proofs.Written.{nothing, Written, none-written, more-written, room-left, index-most, kept-long, all-written}
+use Rattle.emit.proofs.Room.{room-left}
 use Rattle.moving.specs.Label.{labels}
 use Rattle.moving.specs.Reading.{labelAfter}
 use Rattle.emit.specs.inner.Cubes.{cubeMost}

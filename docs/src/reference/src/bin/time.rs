@@ -1,10 +1,12 @@
-//! Times the fast filling and the fast mending on the shapes of
-//! [`reference::shapes`]. To be built with `--release`. An argument sets the
-//! count of runs per shape.
+//! Times the fast filling, the fast mending and the fast node table on the
+//! shapes of [`reference::shapes`]. To be built with `--release`. An argument
+//! sets the count of runs per shape.
 
 use reference::block::Block;
+use reference::damage::NodesCall;
 use reference::fill::{fill, Filled};
 use reference::mend::mend;
+use reference::nodes::nodes;
 use reference::shapes;
 use std::time::Instant;
 
@@ -28,6 +30,7 @@ fn main() {
     ] {
         report_mending(name, block, runs);
     }
+    report_nodes("sphere", &NodesCall::of_sphere(), runs);
 }
 
 /// Prints the best and the middle time of some runs over warm tables.
@@ -73,6 +76,28 @@ fn report_mending(name: &str, block: &Block, runs: usize) {
     for (word, time) in times {
         println!("  {word} {time:.3} ms");
     }
+}
+
+/// The same for the node table; the rows are made anew for each run, beside its
+/// time.
+fn report_nodes(name: &str, call: &NodesCall, runs: usize) {
+    let [nx, ny, nz] = call.sizes;
+    let (mut rows, mut table) = (call.rows.clone(), call.nodes.clone());
+    let mut run = || {
+        rows.copy_from_slice(&call.rows);
+        let begin = Instant::now();
+        let numbered = nodes(nx, ny, nz, &call.cuts, &call.state, &mut rows, &mut table);
+        (begin.elapsed().as_secs_f64() * 1e3, numbered)
+    };
+    let times = best_and_middle((0..runs).map(|_| run().0).collect());
+    let (_, numbered) = run();
+    assert_eq!(numbered.number, 0);
+    let [(_, best), (_, middle)] = times;
+    let count = call.rows.len() / 4;
+    println!(
+        "nodes, {name}: {count} rows, {} nodes, best {best:.2} ms, middle {middle:.2} ms",
+        numbered.nodes
+    );
 }
 
 fn best_and_middle(mut times: Vec<f64>) -> [(&'static str, f64); 2] {

@@ -1,0 +1,4 @@
+pub mod Counts
+pub mod Loops
+pub mod Tables
+pub mod Words

@@ -1,0 +1,33 @@
+-- One word written. Assumes nothing.
+use borrow.Author.Needs.{needs}
+use Rattle.bitmap.proofs.Tables.{set-adds}
+use Rattle.bitmap.proofs.mark.Statement.{statement}
+use Rattle.bitmap.proofs.mark.Tie as tie
+
+mul-bits : tie.Need-mul-bits
+mul-bits c = search needs
+
+slice-read-bits : tie.Need-slice-read-bits
+slice-read-bits c = search needs
+
+shl-bits : tie.Need-shl-bits
+shl-bits c = search needs
+
+mul-bits-2 : tie.Need-mul-bits-2
+mul-bits-2 c = search needs
+
+slice-write-bits : tie.Need-slice-write-bits
+slice-write-bits c = search needs
+
+same-length : tie.Need-same-length
+same-length c = search needs
+
+returns : tie.Need-returns
+returns c =
+    let at-start = c .before in
+    set-adds (at-start .args .bits .now) (at-start .args .k) (at-start .pre)
+
+pub mark-spec : {M : Type 1} → statement M
+mark-spec =
+    tie.close
+    (tie.spec mul-bits slice-read-bits shl-bits mul-bits-2 slice-write-bits same-length returns)

@@ -1,0 +1,11 @@
+pub mod ANumber
+pub mod Used
+pub mod Ids
+pub mod Table
+pub mod Over
+pub mod Places
+pub mod Checks
+pub mod Told
+pub mod After
+pub mod Refusals
+pub mod Theorems
