@@ -6,7 +6,7 @@ use libc::STDOUT_FILENO;
 
 fn print_line(word: &[u8], n: u64) {
     io::write_all(STDOUT_FILENO, word);
-    io::print_decimal(STDOUT_FILENO, n);
+    text::print_number(n);
     io::write_all(STDOUT_FILENO, b"\n");
 }
 
@@ -17,7 +17,7 @@ fn wide(n: u32) -> u64 {
 fn print(s: Summary) {
     if s.number != 0 {
         io::write_all(STDOUT_FILENO, b"refused ");
-        io::print_decimal(STDOUT_FILENO, wide(s.number));
+        text::print_number(wide(s.number));
         print_line(b" ", s.place);
         return;
     }

@@ -121,7 +121,7 @@ module _ (bytes : List ℕ) (limit : ℕ) (samples : List ℤ) (cuts : List ℕ)
       (refuses samples cuts (ltb (length cuts) (7 * points s)) 12 _
       (refuses samples cuts (not (wellFormed bytes (points s))) 11 (taken bytes samples cuts s) (λ n. absurd (n refl)))))))
 
-  read-answers : Answers (read bytes limit samples cuts .answer .number)
+  pub read-answers : Answers (read bytes limit samples cuts .answer .number)
   unfolding read readBody taken
   read-answers =
       let s = fileSizes bytes in

@@ -6,6 +6,12 @@ pub mod Parts
 pub mod Outcome
 pub mod Checked
 pub mod Longest
+pub mod Stages
+pub mod Followed
+pub mod Settled
+pub mod Holding
+pub mod Holds
+pub mod CutBytes
 pub mod Stands
 pub mod Rows
 pub mod RoundTrip

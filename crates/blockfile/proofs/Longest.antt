@@ -1,5 +1,6 @@
 -- How long a well-formed file can be, and that a buffer with one byte more loses nothing: runs never touch, so a file of n points has
--- at most (7n + 1) / 2 of them, and 2 · its length is at most 53n + 17. Assumes nothing.
+-- at most (7n + 1) / 2 of them, and 2 · its length is at most 53n + 17. Within the bench program's limit that is 9,045 bytes.
+-- Assumes nothing.
 use Prim.Native.Nat.{ℕ, zero, suc, _+_, _*_, _<_, _≤_}
 use native.Mathlib.Omega.{arith}
 use mathlib.Core.Path.{_≡_, refl, sym, ap, _∙_}
@@ -14,8 +15,9 @@ use borrow.Author.Tests.{lt-ltb, le-ltb, ltb-false}
 use Rattle.basics.specs.Choice.{if_then_else_}
 use Rattle.basics.proofs.Test.{lt-or, false-F}
 use Rattle.lattice.specs.declared.Sizes.{Sizes}
-use Rattle.lattice.specs.Counts.{Sized, sizesFit, points}
+use Rattle.lattice.specs.Counts.{Sized, sizesFit, cells, points}
 use Rattle.lattice.proofs.Sized.{fits-sized}
+use Rattle.lattice.proofs.Bounds.{product₃}
 use Rattle.blockfile.specs.declared.Run.{Run}
 use Rattle.blockfile.specs.Format.{
   fit,
@@ -35,6 +37,7 @@ use Rattle.blockfile.specs.Format.{
   read,
   readWhole,
 }
+use Rattle.blockfile.specs.inner.Needs.{benchLongest}
 use Rattle.blockfile.proofs.Fitting.{fit-head, fit-tail}
 use Rattle.blockfile.proofs.Parts.{well-formed}
 
@@ -85,6 +88,23 @@ limited limit s e =
     let u = or-none (ltb limit (s .nx)) _ e in
     let v = or-none (ltb limit (s .ny)) _ (u .1) in
     record { x = ltb-false _ _ (u .0); y = ltb-false _ _ (v .0); z = ltb-false _ _ (v .1) }
+
+-- no file within the limit has more than `most` bytes
+abbrev pub NoLonger : ℕ → ℕ → Type 0
+NoLonger limit most = (s : Sizes) → Sized s → Limited limit s → 53 * points s + 17 ≤ 2 * most + 1
+
+-- the bench program's limit is 5: N is at most 341, and 53 · 341 + 17 = 2 · 9,045
+pub bench-most : (s : Sizes) → Limited 5 s → points s ≤ 341
+unfolding points cells
+bench-most s w =
+    omega (
+      arith,
+      product₃ 6 6 6 {a = s .nx + 1} {b = s .ny + 1} {c = s .nz + 1} (omega arith) (omega arith) (omega arith),
+      product₃ 5 5 5 (w .x) (w .y) (w .z),
+    )
+
+pub bench-enough : NoLonger 5 benchLongest
+bench-enough s z w = omega (arith, bench-most s w)
 
 module _ (samples : List ℤ) (cuts : List ℕ) where
   -- what the reader tests before it looks at the rest of the file, and then the test for what follows

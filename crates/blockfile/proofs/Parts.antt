@@ -60,14 +60,14 @@ well-formed bytes n e =
     }
 
 -- the same of the parts after the run count, which the code holds as a number
-pub record Held (bytes : List ℕ) (n count : ℕ) : Type 0 where
+pub record Counted (bytes : List ℕ) (n count : ℕ) : Type 0 where
   pub headed : 5 + 2 * n + 6 * count ≤ length bytes
   pub there : 5 + 2 * n + 6 * count + lengths (runsFrom bytes (5 + 2 * n) count) ≤ length bytes
   pub fits : fit (7 * n) 0 (runsFrom bytes (5 + 2 * n) count) ≡ true
 
-pub held : {bytes : List ℕ} {n count : ℕ} → WellFormed bytes n → count ≡ runCount bytes n → Held bytes n count
+pub counted : {bytes : List ℕ} {n count : ℕ} → WellFormed bytes n → count ≡ runCount bytes n → Counted bytes n count
 unfolding end
-held {bytes} {n} {count} w e = rw e (record { headed = omega (arith, w .long); there = w .long; fits = w .fits })
+counted {bytes} {n} {count} w e = rw e (record { headed = omega (arith, w .long); there = w .long; fits = w .fits })
 
 pub file-cuts : (bytes table : List ℕ) (n : ℕ) {t : List ℕ} {count : ℕ} → count ≡ runCount bytes n
     → t ≡ sets table 0 (cutsFrom bytes (7 * n) 0 (5 + 2 * n + 6 * count) (runsFrom bytes (5 + 2 * n) count))

@@ -13,6 +13,7 @@ ghost use lib.ListN.{length};
 ghost use lib.Seq.{sets};
 ghost use Rattle.lattice.specs.Counts.{Sized, points, mostPoints};
 ghost use Rattle.blockfile.specs.Format.{fileSizes, beyond, wellFormed, samplesFrom, fileCuts, refusal, readBody, read, readSizes, readWhole};
+ghost use Rattle.blockfile.specs.inner.Needs.{needsAfter, needs};
 
 // The sizes with which a file starts.
 fn sizes_of(bytes: &[u8]) -> Sizes
@@ -147,4 +148,38 @@ pub fn read_whole(bytes: &[u8], limit: usize, samples: &mut [i16], cuts: &mut [u
     }
     write_tables(bytes, points_of(r), samples, cuts);
     r
+}
+
+// How many bytes of a file of n points must be held before more of it is known.
+fn needed_after(bytes: &[u8], n: usize) -> usize
+    requires { ⌜ n ≤ mostPoints ⌝ }
+    ensures { λ r. ⌜ r ≡ needsAfter (now (bytes .entry)) n ⌝ }
+{
+    let head = 5 + 2 * n;
+    if bytes.len() < head {
+        return head;
+    }
+    let first = head + 6 * numbers::two_at(bytes, 3 + 2 * n);
+    if bytes.len() < first {
+        return first;
+    }
+    runs::end_of(bytes, n)
+}
+
+// How many bytes must be held before more is known of the file that they start: a reader that asks
+// for so many, again and again, never takes a byte past the file's end.
+pub fn needed(bytes: &[u8], limit: usize) -> usize
+    ensures { λ r. ⌜ r ≡ needs (now (bytes .entry)) limit ⌝ }
+{
+    if bytes.len() < 3 {
+        return 3;
+    }
+    let s = sizes_of(bytes);
+    if !counts::sizes_fit(s) {
+        return 3;
+    }
+    if is_beyond(s, limit) {
+        return 3;
+    }
+    needed_after(bytes, counts::point_count(s))
 }

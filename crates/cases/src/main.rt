@@ -22,13 +22,9 @@ fn print(word: &[u8]) {
     io::write_all(STDOUT_FILENO, word);
 }
 
-fn print_number(n: u64) {
-    io::print_decimal(STDOUT_FILENO, n);
-}
-
 fn print_line(word: &[u8], n: u64, rest: &[u8]) {
     print(word);
-    print_number(n);
+    text::print_number(n);
     print(rest);
 }
 

@@ -1,6 +1,6 @@
 -- The program's tables and its input buffer are large enough: within its limit N is at most 341 and there are at most 1,200 lattice
 -- tetrahedra, so that 10 never arises; and a summary of the first 9,046 bytes is that of all of them. Assumes nothing.
-use Prim.Native.Nat.{ℕ, _+_, _*_, _-_, _≤_}
+use Prim.Native.Nat.{ℕ, _*_, _-_, _≤_}
 use native.Mathlib.Omega.{arith}
 use mathlib.Core.Path.{_≡_, refl}
 use mathlib.Core.Logic.{inl, inr}
@@ -13,25 +13,14 @@ use borrow.Author.Tests.{eq-eqb, ne-eqb}
 use Rattle.basics.specs.Choice.{if_then_else_}
 use Rattle.basics.proofs.Test.{lt-or}
 use Rattle.lattice.specs.declared.Sizes.{Sizes}
-use Rattle.lattice.specs.Counts.{cells, points, tetrahedra}
-use Rattle.lattice.proofs.Bounds.{product₃}
 use Rattle.filling.specs.declared.Filled.{Filled}
+use Rattle.extent.proofs.Amount.{long-enough-always, tetrahedra-within}
 use Rattle.blockfile.specs.declared.Read.{Read}
 use Rattle.blockfile.specs.Format.{readSizes, readWhole}
 use Rattle.blockfile.proofs.Checked.{Answers, fine, by-size, by-file, by-limit, whole-answers, whole-readable}
-use Rattle.blockfile.proofs.Longest.{Limited, limited, first-bytes}
-use Rattle.yakuemi.proofs.Amount.{long-enough-always}
+use Rattle.blockfile.proofs.Longest.{Limited, limited, bench-most, first-bytes}
 use Rattle.fill_file.specs.declared.Summary.{Summary}
 use Rattle.fill_file.specs.program.Summary.{benchLimit, refusal, counted, fillRead, summary}
-
-pub points-within : (s : Sizes) → Limited benchLimit s → points s ≤ 341
-unfolding points cells
-points-within s w =
-    omega (
-      arith,
-      product₃ 6 6 6 {a = s .nx + 1} {b = s .ny + 1} {c = s .nz + 1} (omega arith) (omega arith) (omega arith),
-      product₃ 5 5 5 (w .x) (w .y) (w .z),
-    )
 
 -- one byte more than the longest file: 2 · 9,045 = 53 · 341 + 17
 abbrev pub bufferLength : ℕ
@@ -41,21 +30,11 @@ pub buffer-enough : (bytes : List ℕ) (samples : List ℤ) (cuts state rows : L
     → summary (take bufferLength bytes) samples cuts state rows ≡ summary bytes samples cuts state rows
 unfolding summary
 buffer-enough bytes samples cuts state rows =
-    rw (first-bytes benchLimit samples cuts bufferLength (omega arith) (λ s z w. omega (arith, points-within s w)) bytes)
+    rw (first-bytes benchLimit samples cuts bufferLength (omega arith) (λ s z w. omega (arith, bench-most s w)) bytes)
 
 -- three rows of four numbers for each lattice tetrahedron
 abbrev pub rowTable : ℕ
 rowTable = 14400
-
-tetrahedra-within : (s : Sizes) → Limited benchLimit s → 12 * tetrahedra s ≤ rowTable
-unfolding tetrahedra
-tetrahedra-within s w =
-    omega (
-      arith,
-      product₃ 4 5 5 {a = s .nx - 1} {b = s .ny} {c = s .nz} (omega arith) (w .y) (w .z),
-      product₃ 5 4 5 {a = s .nx} {b = s .ny - 1} {c = s .nz} (w .x) (omega arith) (w .z),
-      product₃ 5 5 4 {a = s .nx} {b = s .ny} {c = s .nz - 1} (w .x) (w .y) (omega arith),
-    )
 
 not-ten : {k : ℕ} → Answers k → k ≡ 10 → ⊥
 not-ten fine e = omega arith
@@ -81,7 +60,8 @@ module _ (bytes : List ℕ) (samples : List ℤ) (cuts state rows : List ℕ) (l
   filled-ten z e =
       let s = readSizes reading in
       let w = limited benchLimit s (whole-readable bytes benchLimit samples cuts {r = reading} refl z .within) in
-      counted-ten s _ (long-enough-always _ _ _ rows (omega (arith, tetrahedra-within s w))) (rw (eq-eqb (reading .number) 0 z) at e)
+      let few = tetrahedra-within s (w .x) (w .y) (w .z) in
+      counted-ten s _ (long-enough-always _ _ _ rows (omega (arith, few))) (rw (eq-eqb (reading .number) 0 z) at e)
 
   refused-ten : (reading .number ≡ 0 → ⊥) → summary bytes samples cuts state rows .answer .number ≡ 10 → ⊥
   unfolding summary refusal

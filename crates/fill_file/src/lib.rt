@@ -38,7 +38,13 @@ fn least(a: usize, b: usize) -> usize
 
 // The measures of the block that was read, and its filling with band 0. A state table that is too
 // short is lent as it is, and filling refuses it.
-fn fill_read(r: Read, samples: &[i16], cuts: &[u8], state: &mut [u8], rows: &mut [u32]) -> Summary
+pub fn fill_read(
+    r: Read,
+    samples: &[i16],
+    cuts: &[u8],
+    state: &mut [u8],
+    rows: &mut [u32],
+) -> Summary
     requires { ⌜ Sized (readSizes r) ⌝ }
     requires { ⌜ (points (readSizes r) ≤ length (now samples)) × (7 * points (readSizes r) ≤ length (now cuts)) ⌝ }
     ensures { λ a. ⌜ a ≡ fillRead (readSizes r) (now (samples .entry)) (now (cuts .entry)) (now (state .entry)) (now (rows .entry)) .answer ⌝ }

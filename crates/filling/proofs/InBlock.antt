@@ -66,7 +66,7 @@ module _ (s : Sizes) (cuts state : List ℕ) (bytes : Bytes cuts) where
   faultBy point sound past there = if point then (if sound then 0 else 9) else if past then 8 else if there then 0 else 8
 
   -- an id without a fault
-  place-in : (id : ℕ) → idFault s cuts state id ≡ 0 → (a : Axis) → Steps (size s a) (placeOf s cuts state id a)
+  pub place-in : (id : ℕ) → idFault s cuts state id ≡ 0 → (a : Axis) → Steps (size s a) (placeOf s cuts state id a)
   unfolding idFault placeOf
   place-in id e a = go (ltb id n) refl (leb (8 * n) id) refl (stands s cuts state (id - n)) refl e
     where

@@ -8,7 +8,7 @@ fn wide(b: u8) -> u32 {
 
 fn print_line(word: &[u8], n: u64) {
     io::write_all(STDOUT_FILENO, word);
-    io::print_decimal(STDOUT_FILENO, n);
+    text::print_number(n);
     io::write_all(STDOUT_FILENO, b"\n");
 }
 

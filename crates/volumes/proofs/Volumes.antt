@@ -57,7 +57,7 @@ map-same : {A B : Type 0} (f g : A → B) (l : List A) → ((a : A) → Member a
 map-same f g [] h = refl
 map-same f g (x ∷ l) h = λ i. h x here i ∷ map-same f g l (λ a m. h a (there m)) i
 
-getD-member : {A : Type 0} (l : List A) (n : ℕ) (d : A) → n < length l → Member (getD l n d) l
+pub getD-member : {A : Type 0} (l : List A) (n : ℕ) (d : A) → n < length l → Member (getD l n d) l
 getD-member [] n d h = absurd (omega arith)
 getD-member (x ∷ l) zero d h = here
 getD-member (x ∷ l) (suc n) d h = there (getD-member l n d (omega arith))

@@ -1,4 +1,3 @@
-pub mod Amount
 pub mod Checked
 pub mod Conforming
 pub mod Measured

@@ -2,12 +2,15 @@
 //! reference answers and leaves in the lent tables, to standard output: as
 //! crates/casebook/specs/cases/Blocks.antt with the argument `blocks`, and as
 //! crates/cases/stdin, many more of them and of the reader too, with `cases`;
-//! with `millimetres` crates/casebook/specs/cases/Millimetres.antt.
+//! with `millimetres` crates/casebook/specs/cases/Millimetres.antt. And a week
+//! of block files, crates/report/stdin, with `week`, and what the report of them
+//! must say, crates/report/stdout, with `week-report`.
 
 mod antt;
 mod calls;
 mod millimetres;
 mod records;
+mod week;
 
 use reference::damage::{Call, Outcome};
 use reference::place::{place, Placed};
@@ -35,7 +38,9 @@ fn main() -> std::io::Result<()> {
         Some("blocks") => written().into_bytes(),
         Some("cases") => records::file(),
         Some("millimetres") => millimetres::file().into_bytes(),
-        _ => panic!("blocks, cases or millimetres?"),
+        Some("week") => week::files(),
+        Some("week-report") => week::report(),
+        _ => panic!("blocks, cases, millimetres, week or week-report?"),
     };
     std::io::stdout().write_all(&bytes)
 }
@@ -126,6 +131,17 @@ mod tests {
     fn the_cases_are_what_this_writes() {
         let file = include_bytes!("../../../../crates/cases/stdin");
         assert!(file[..] == records::file(), "write crates/cases/stdin anew");
+    }
+
+    #[test]
+    fn the_week_is_what_this_writes() {
+        let files = include_bytes!("../../../../crates/report/stdin");
+        assert!(files[..] == week::files(), "write crates/report/stdin anew");
+        let report = include_bytes!("../../../../crates/report/stdout");
+        assert!(
+            report[..] == week::report(),
+            "write crates/report/stdout anew"
+        );
     }
 
     #[test]

@@ -66,7 +66,8 @@ fn check_row(block: &Block, state: &[u8], row: [u32; 4]) -> Result<(), String> {
     Ok(())
 }
 
-fn place_of_id(block: &Block, state: &[u8], id: u32) -> Result<Place, String> {
+/// The place of a corner of a row, or what is wrong with its id.
+pub fn place_of_id(block: &Block, state: &[u8], id: u32) -> Result<Place, String> {
     let [nx, ny, nz] = block.sizes;
     let placed = place(nx, ny, nz, &block.cuts, state, id);
     match placed.number {

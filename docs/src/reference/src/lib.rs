@@ -1,6 +1,6 @@
 //! An independent reference implementation of document 01, "Stuffing a
 //! scanned block with tetrahedra" (uniform isosurface stuffing), and of
-//! requests F-1 to F-6 of document 02, "Customer requests after the base".
+//! requests F-1 to F-7 of document 02, "Customer requests after the base".
 //!
 //! It was written from these documents, the paper that document 01 cites and
 //! IEEE 754 alone, to be compared with another implementation: in its answers
@@ -19,7 +19,9 @@
 //! | [`place`] | measures of a block and the place of an id |
 //! | [`metric`] | the place of an id in millimetres, with floats and without |
 //! | [`block`], [`blockfile`] | a block, its file, the bench program's output |
+//! | [`report`] | the volume report's output for files one after another |
 //! | [`check`] | brute-force check of the finished mesh (demand 3) |
+//! | [`boundary`] | brute-force check of the faces in one row only: their volume, their edges |
 //! | [`random`], [`generate`], [`damage`], [`shapes`] | inputs for tests and timing: blocks, bands, calls |
 //!
 //! The fast filling and the plain one share the counts of points, the seven
@@ -36,6 +38,7 @@
 pub mod bits;
 pub mod block;
 pub mod blockfile;
+pub mod boundary;
 pub mod bytes;
 pub mod check;
 pub mod cut;
@@ -52,6 +55,7 @@ pub mod place;
 pub mod plain;
 pub mod random;
 pub mod refusal;
+pub mod report;
 pub mod shapes;
 pub mod stencil;
 pub mod strides;

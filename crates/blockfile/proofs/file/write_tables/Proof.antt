@@ -1,7 +1,7 @@
 -- The parts of a well-formed file are within it, and both tables are written from them. Assumes nothing.
 use native.Mathlib.Omega.{arith}
 use borrow.Author.Needs.{needs}
-use Rattle.blockfile.proofs.Parts.{well-formed, first-end, held, file-cuts}
+use Rattle.blockfile.proofs.Parts.{well-formed, first-end, counted, file-cuts}
 use Rattle.blockfile.proofs.file.write_tables.Statement.{statement}
 use Rattle.blockfile.proofs.file.write_tables.Tie as tie
 
@@ -41,7 +41,7 @@ mul-write-cuts-2 c = search needs
 write-cuts-requires : tie.Need-write-cuts-requires
 write-cuts-requires c κs =
     let a = c .before .before .before .before .before .before .before in
-    let w = held (well-formed (a .args .bytes .now) (a .args .n) (a .pre .0 .1)) (c .before .two-at .ensures .0) in
+    let w = counted (well-formed (a .args .bytes .now) (a .args .n) (a .pre .0 .1)) (c .before .two-at .ensures .0) in
     ((c .before .two-at .ensures .1, w .headed), (w .there, (w .fits, a .pre .1 .1)))
 
 same-length : tie.Need-same-length

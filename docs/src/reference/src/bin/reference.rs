@@ -6,12 +6,14 @@ use reference::blockfile::{bench_output, fill_block, read, write};
 use reference::generate::any_block;
 use reference::lattice::LARGEST_SIZE;
 use reference::random::Random;
+use reference::report::report;
 use std::io::{Read, Write};
 use std::process::ExitCode;
 
 const USAGE: &str = "\
 usage: reference <command>
   bench-output        block file in, the bench program's output out
+  report              block files one after another in, the report out
   tables [band]       block file (sizes to 64) in, all answers out: number, T,
                       M, place; the state bytes; the rows, one a line; band 0
                       if none is given
@@ -24,6 +26,7 @@ fn main() -> ExitCode {
     let arguments: Vec<&str> = arguments.iter().map(String::as_str).collect();
     let output = match arguments[..] {
         ["bench-output"] => Some(bench_output(&input()).into_bytes()),
+        ["report"] => Some(report(&input())),
         ["tables"] => tables_text("0"),
         ["tables", band] => tables_text(band),
         ["case"] => write(&Block::given_case()),

@@ -1,0 +1,15 @@
+pub mod ABoundary
+pub mod AGiven
+pub mod Sums
+pub mod Smallest
+pub mod Different
+pub mod Meets
+pub mod Alone
+pub mod HalfFaces
+pub mod Matched
+pub mod Cancel
+pub mod Volume
+pub mod Runs
+pub mod Listed
+pub mod Boundary
+pub mod Theorems

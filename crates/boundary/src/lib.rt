@@ -1,0 +1,1 @@
+// The boundary of the rows of every block that filling accepts; no code.

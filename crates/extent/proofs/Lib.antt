@@ -1,0 +1,5 @@
+pub mod Amount
+pub mod Triple
+pub mod Interval
+pub mod Boxed
+pub mod Extent

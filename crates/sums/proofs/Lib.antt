@@ -1,0 +1,5 @@
+pub mod Stood
+pub mod Volume
+pub mod Added
+pub mod Filled
+pub mod Total

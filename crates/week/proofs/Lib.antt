@@ -1,0 +1,12 @@
+pub mod AWeek
+pub mod Counted
+pub mod Fields
+pub mod Measuring
+pub mod Opening
+pub mod Entries
+pub mod Ended
+pub mod Short
+pub mod Cases
+pub mod Refilled
+pub mod Turning
+pub mod Printed
