@@ -13,10 +13,10 @@
  *   samples   N      signed, one a point: above zero in rubber, below zero in air; on the skin if in the band, as zero always is
  *   cuts      7N     the edge from point p in direction d (0 to 6) has byte 7p+d: how many 256ths along from p the skin crosses it;
  *                    1 to 255 exactly where one end's sample is above zero and the other's below, whatever the band, else 0
- *   state     N      written: 0 if the point did not move; d+1 if it moved onto the cut of its edge in direction d, d+8 if onto that of
- *                    the edge that leads to it in direction d. Points have their turns in ascending number; of the cuts too near it
- *                    whose other end has not moved and is not in the band a point takes the nearest, and of those as near the one
- *                    with the lower byte here
+ *   state     N      written: 1 to 14 if the point moved, d+1 onto the cut of its edge in direction d, d+8 onto that of the edge that
+ *                    leads to it in direction d; YAKUEMI_ON_SKIN, 15, if it is in the band: it lies on the skin unmoved; 0 for any
+ *                    other. Points have their turns in ascending number; of the cuts too near it whose other end has not moved and
+ *                    is not in the band a point takes the nearest, and of those as near the one with the lower byte here
  *   rows      4T     written: the tetrahedra, four ids a row; an id is p for a point, N+7p+d for the cut of an edge. Between the ids
  *                    in use are holes; yakuemi_nodes makes node numbers of them, which have none
  *
@@ -29,8 +29,9 @@
  * are in the band. Too large a band spoils the part: rubber whose samples are in it is left out, so that thin walls vanish, and
  * elsewhere the skin is drawn from the cuts to lattice points.
  *
- * So a corner of a row lies on the skin if it is a cut (an id of N or more), a point that moved (its state byte is not 0) or a point in
- * the band. A face that belongs to one row only has three such corners.
+ * So a corner of a row lies on the skin if it is a cut (an id of N or more), a point that moved (its state byte is 1 to 14) or a point in
+ * the band (its state byte is 15): exactly if it is a cut or its state byte is not 0. A face that belongs to one row only has three such
+ * corners.
  *
  * Tables. A table is a pointer and its length in entries, not in bytes. The pointer must be valid for that many entries, aligned
  * for its type, and not null even where the length is 0 (nothing is read or written through it then). Tables that are lent to one
@@ -49,6 +50,9 @@
 #ifdef __cplusplus
 extern "C" {
 #endif
+
+/* The state byte of a point that lies on the skin unmoved. A byte from 1 to 14 is a move. */
+enum { YAKUEMI_ON_SKIN = 15 };
 
 /* The numbers of the answers. */
 enum yakuemi_number {
@@ -150,7 +154,7 @@ struct yakuemi_mended yakuemi_mend(uint32_t nx, uint32_t ny, uint32_t nz,
 struct yakuemi_filled {
     uint32_t number;
     uint64_t rows;  /* T */
-    uint64_t moved; /* M, the points that moved: the non-zero bytes of the state table */
+    uint64_t moved; /* M, the points that moved: the bytes 1 to 14 of the state table */
     uint64_t place; /* where the fault is, with 5, 6 and 7; else 0 */
 };
 
@@ -192,9 +196,9 @@ struct yakuemi_placed {
  *
  * Answers 0 with the place, for every id of the rows of a filled block. Or, with the place (0, 0, 0), the first of these
  * that applies: 1, 3, 4; 8 if the id is 8N or more, or is that of a cut whose edge does not exist, has byte 0 or has an end with
- * a non-zero state byte; 9 if the point's state byte is above 14, or names an edge that does not exist, has byte 0 or has its cut too far
- * from the point to move it. (The call reads no samples and takes no band, so it also answers a place for a byte that names a cut near
- * enough but not the nearest, and for a cut beside a point in the band, which no row names.)
+ * a non-zero state byte; 9 if the point's state byte is above 15, or is 1 to 14 and names an edge that does not exist, has byte 0 or has
+ * its cut too far from the point to move it. A point whose byte is 0 or 15 is in its own place. (The call reads no samples and takes no
+ * band, so it believes 15 wherever it stands, and a byte that names a cut near enough but not the nearest.)
  */
 struct yakuemi_placed yakuemi_place(uint32_t nx, uint32_t ny, uint32_t nz,
                                     const uint8_t *cuts, size_t cuts_len,

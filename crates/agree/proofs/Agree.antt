@@ -1,9 +1,8 @@
 -- The calls agree: with the state table that filling leaves, the place call believes every point, and answers every point and every cut
--- between unmoved ends with the very place that the rows are measured by. Whatever moves reached the state table. Assumes nothing.
+-- between ends with state byte 0 with the very place that the rows are measured by. Whatever moves reached the state table. Assumes nothing.
 use Prim.Native.Nat.{ℕ, _+_, _*_, _-_, _/_, _%_, _<_}
 use native.Mathlib.Omega.{arith}
 use mathlib.Core.Path.{_≡_, refl}
-use mathlib.Core.Logic.{inl, inr}
 use mathlib.Core.Bool.{true}
 use mathlib.Core.List.{List}
 use lib.ListN.{length, getD}
@@ -18,8 +17,8 @@ use Rattle.moving.specs.Violation.{rule1}
 use Rattle.moving.specs.Reading.{Reading}
 use Rattle.moving.specs.Moving.{outset}
 use Rattle.moving.proofs.Settled.{Reached}
-use Rattle.moving.proofs.Bytes.{code-move}
-use Rattle.moving.proofs.Moved.{reached-byte}
+use Rattle.moving.proofs.Bytes.{code-move, zero-none, mark-none, code-some}
+use Rattle.moving.proofs.Moved.{Says, still, marked, moved, reached-byte}
 use Rattle.stencil.specs.Id.{cutId}
 use Rattle.geometry.specs.Place.{placeOf}
 use Rattle.filling.specs.declared.Placed.{Placed}
@@ -40,19 +39,20 @@ pub record Asked (m : Reading) : Type 0 where
 
 module _ (m : Reading) (asked : Asked m) (codes : List ℕ) (reached : Reached m (outset m) codes) where
   -- no point is refused with 9
-  pub believed : (p : ℕ) → believable (m .sizes) (m .cuts) codes p ≡ true
+  pub believed : (p : ℕ) → p < points (m .sizes) → believable (m .sizes) (m .cuts) codes p ≡ true
   unfolding believable reaches
-  believed p =
-      elim (reached-byte m reached p) [
-        | inl e ↦ rw (eq-eqb code 0 e) refl
-        | inr v ↦
-            let edge = v .1 .edge in
-            let near = rw (asked .rule-is) at (v .1 .near) in
-            rw (ne-eqb code 0 (λ e. omega (arith, edge .code .low)), code-move code (edge .code), edge .leads) (T-true _ near)
-      ]
+  believed p l = go (reached-byte m reached p l)
     where
       code : ℕ
       code = getD codes p 0
+
+      go : Says m reached p → believable (m .sizes) (m .cuts) codes p ≡ true
+      go (still e _) = rw (zero-none code e) refl
+      go (marked e _) = rw (mark-none code e) refl
+      go (moved v) =
+          let edge = v .1 .edge in
+          let near = rw (asked .rule-is) at (v .1 .near) in
+          rw (code-some code (edge .code), code-move code (edge .code), edge .leads) (T-true _ near)
 
   -- an id without a fault is answered with its place
   faultless : (id : ℕ) → idFault (m .sizes) (m .cuts) codes id ≡ 0 → answerTo m codes id ≡ standsAt m codes id
@@ -68,9 +68,9 @@ module _ (m : Reading) (asked : Asked m) (codes : List ℕ) (reached : Reached m
 
   pub point-agrees : (p : ℕ) → p < points (m .sizes) → answerTo m codes p ≡ standsAt m codes p
   unfolding idFault
-  point-agrees p l = faultless p (rw (lt-ltb _ _ l, believed p) refl)
+  point-agrees p l = faultless p (rw (lt-ltb _ _ l, believed p l) refl)
 
-  -- the cut of an edge that exists, has a byte, and has two ends that did not move
+  -- the cut of an edge that exists, has a byte, and has two ends with state byte 0
   pub cut-agrees : (p d q : ℕ) → p < points (m .sizes) → d < 7 → neighbour (m .sizes) p (asStart d) ≡ At q
       → (getD (m .cuts) (byteAt p d) 0 ≡ 0 → ⊥) → getD codes p 0 ≡ 0 → getD codes q 0 ≡ 0
       → answerTo m codes (cutId (m .sizes) p d) ≡ standsAt m codes (cutId (m .sizes) p d)

@@ -9,6 +9,7 @@ use Rattle.casebook.specs.cases.Cases.{cases, strange}
 use Rattle.casebook.specs.cases.Nearest.{nearest}
 use Rattle.casebook.specs.cases.Bands.{rodSamples, rod, bands}
 use Rattle.casebook.specs.cases.Mends.{sampled, mendings}
+use Rattle.casebook.specs.cases.Marks.{withoutRubber, rimZero, marks}
 use Rattle.casebook.specs.cases.Nodes.{Numbering, numberings}
 use Rattle.casebook.specs.cases.Strays.{air, strays}
 use Rattle.casebook.specs.cases.Result.{computed, expected, found, resultOf}
@@ -51,3 +52,10 @@ numbersOf n = number (n .sizes) (n .cuts) (n .state) (n .rows) (n .nodes)
 pub nodes-come-out : map numbersOf numberings ≡ map (λ n. n .outcome) numberings
 unfolding definitions used nodeNumber nodeOf node nodeTable firstUnplaced number laid laidRuns givenSamples givenCuts numberings
 nodes-come-out = refl
+
+-- document 02, F-8
+pub marks-come-out : map computed marks ≡ map expected marks
+unfolding
+    definitions laid laidRuns givenSamples givenCuts allEntered changed withoutRubber rimZero marks
+    computed expected found resultOf
+marks-come-out = refl

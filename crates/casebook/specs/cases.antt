@@ -4,6 +4,7 @@ pub mod Cases
 pub mod Nearest
 pub mod Bands
 pub mod Mends
+pub mod Marks
 pub mod Nodes
 pub mod Strays
 pub mod Result

@@ -27,7 +27,8 @@ use Rattle.lattice.proofs.Edge.{leads-near, near-number}
 use Rattle.moving.specs.declared.Label.{Label}
 use Rattle.moving.specs.Label.{isPlus, isZero, opposed}
 use Rattle.moving.specs.Violation.{rule1, limit}
-use Rattle.moving.specs.Reading.{Reading, isMove, labelAfter}
+use Rattle.moving.specs.State.{isMove}
+use Rattle.moving.specs.Reading.{Reading, labelAfter}
 use Rattle.moving.specs.Moving.{outset}
 use Rattle.moving.specs.Block.{Bytes}
 use Rattle.moving.proofs.Labels.{opposed-near, opposed-far}
@@ -116,7 +117,7 @@ module _ {m : Reading} (codes : List ℕ) (fits : Fits m) where
               }
           go true e =
               let moved = true-T _ e in
-              let v = reached-move m reached p moved in
+              let v = reached-move m reached p (number-lt (m .sizes) k i inside) moved in
               let w = moved-within m k i inside bytes (outset m) codes (v .0) moved (v .1) in
               record {
                 c = getD codes p 0;

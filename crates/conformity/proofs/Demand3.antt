@@ -53,7 +53,7 @@ module _ (m : Reading) (fits : Fits m) where
   on-skin : (id : ℕ) → RowId (m .sizes) (finalLabel m (stateOf m)) id
       → (points (m .sizes) ≤ id) ⊎ ((id < points (m .sizes)) × (finalLabel m (stateOf m) id ≡ Zero)) → OnSkin m id
   on-skin id r (inr z) =
-      elim (reached-zero m (state-reached m) id (z .1)) [ inl n ↦ a-moved-point (z .0) n | inr e ↦ a-zero-label (z .0) e ]
+      elim (reached-zero m (state-reached m) id (z .0) (z .1)) [ inl n ↦ a-moved-point (z .0) n | inr e ↦ a-zero-label (z .0) e ]
   on-skin id (a-point l n) (inl c) = absurd (omega arith)
   on-skin id (an-edge p d q l u to o e) (inl c) = a-cut p d q l u to (λ z. omega (arith, edge-byte (stateOf m) fits p d q l u to o)) e
 

@@ -17,7 +17,8 @@ use Rattle.lattice.specs.Direction.{Code, isStart, directionOf, step}
 use Rattle.lattice.specs.Edge.{near, byteAt, edgeByte}
 use Rattle.lattice.proofs.Edge.{FarEnd, far-end, near-number}
 use Rattle.moving.specs.Violation.{limit, measured}
-use Rattle.moving.specs.Reading.{Reading, isMove, cutAlong}
+use Rattle.moving.specs.State.{isMove}
+use Rattle.moving.specs.Reading.{Reading, cutAlong}
 use Rattle.moving.specs.Block.{Bytes}
 use Rattle.moving.proofs.Settled.{Violating}
 use Rattle.moving.proofs.Bytes.{violates-within}

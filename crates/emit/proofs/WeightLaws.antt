@@ -1,6 +1,6 @@
 -- Weights of labels, from the tests that the code makes of a sample and of a state byte. Assumes nothing.
 use Prim.Native.Nat.{ℕ, _^_, _<_}
-use mathlib.Core.Path.{_≡_, refl, sym, ap, _∙_}
+use mathlib.Core.Path.{_≡_, refl, ap}
 use mathlib.Core.Bool.{true, false}
 use mathlib.Core.List.{List}
 use lib.IntN.{ℤ, pos}
@@ -12,8 +12,8 @@ use mir.ValLaws.{toZ-ofZ}
 use Rattle.moving.specs.declared.Label.{Label}
 use Rattle.moving.specs.declared.Label.the-variants.{Minus, Zero, Plus}
 use Rattle.moving.specs.Label.{labelOf, labels, isPlus, isMinus}
+use Rattle.moving.specs.State.{saysZero}
 use Rattle.moving.specs.Reading.{labelAfter}
-use Rattle.moving.proofs.Bytes.{label-still, label-moved}
 use Rattle.rows.specs.inner.Picks.{weight}
 use Rattle.emit.specs.inner.Cubes.{plusAt}
 
@@ -45,14 +45,15 @@ weight-zero Minus e f = cc
 weight-zero Zero e f = refl
 weight-zero Plus e f = cc
 
--- a moved point weighs nothing, any other what its label weighs
+-- a point weighs nothing if its state byte says that its label is zero, and else what its label weighs
 module _ (label : ℕ → Label) (state : List ℕ) (p : ℕ) where
-  pub weight-moved : (getD state p 0 ≡ 0 → ⊥) → 0 ≡ weight (labelAfter label state p)
-  unfolding weight
-  weight-moved n = rw (label-moved label state p n) refl
+  pub weight-faded : saysZero (getD state p 0) ≡ true → 0 ≡ weight (labelAfter label state p)
+  unfolding weight labelAfter
+  weight-faded e = rw e refl
 
-  pub weight-still : {w : ℕ} → getD state p 0 ≡ 0 → w ≡ weight (label p) → w ≡ weight (labelAfter label state p)
-  weight-still z e = e ∙ ap weight (sym (label-still label state p z))
+  pub weight-still : {w : ℕ} → saysZero (getD state p 0) ≡ false → w ≡ weight (label p) → w ≡ weight (labelAfter label state p)
+  unfolding labelAfter
+  weight-still z e = rw z e
 
 -- 1 for plus, 0 for any other
 module _ (label : ℕ → Label) (p : ℕ) where

@@ -3,6 +3,7 @@
 use crate::Cube;
 use crate::CubeWeights;
 use ground::Place;
+use ground::codes;
 use ground::label;
 use ground::volume;
 use rows::Tetra;
@@ -39,13 +40,13 @@ fn weight_of(band: u32, x: i16) -> usize
     picks::ZERO
 }
 
-// The weight of a point's label: zero once it has moved.
+// The weight of a point's label: zero once its state byte says so.
 fn weigh(band: u32, samples: &[i16], state: &[u8], p: usize) -> usize
     requires { ⌜ (p < length (now samples)) × (p < length (now state)) ⌝ }
     ensures { λ r. ⌜ r ≡ weight (labelAfter (labels band (now (samples .entry))) (now (state .entry)) p) ⌝ }
     ensures { λ r. ⌜ r ≤ plusWeight ⌝ }
 {
-    if state[p] != 0 {
+    if codes::says_zero(state[p]) {
         return picks::ZERO;
     }
     weight_of(band, samples[p])
@@ -241,7 +242,7 @@ fn code_at(state: &[u8], p: usize) -> usize
     state[p] as usize
 }
 
-// None of the six points has moved.
+// None of the six points has moved, and none has the mark: all their state bytes are 0.
 fn is_unmoved(state: &[u8], c: Cube) -> bool
     requires { ⌜ KnownCube (length (now state)) c ⌝ }
     ensures { λ r. ⌜ r ≡ unmoved (now (state .entry)) c ⌝ }

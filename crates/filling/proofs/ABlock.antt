@@ -5,6 +5,7 @@ use mathlib.Core.Path.{_≡_, refl}
 use mathlib.Core.List.{List, [], _∷_, map}
 use lib.IntN.{ℤ, pos, negℤ}
 use lib.ListN.{replicate, set}
+use Rattle.basics.specs.Lists.{below}
 use Rattle.basics.specs.cases.Table.{Entry, _:=_, tableOf}
 use Rattle.lattice.specs.declared.Sizes.{Sizes}
 use Rattle.moving.specs.Block.{Block, blockOf}
@@ -86,10 +87,12 @@ calls =
     ∷ fills 0 (blockOf (cubes 2) (plus 35 13) (middle (91 := 193))) 35 95 (answer 10 24 1 0) (14 := 8 ∷ [])
     -- F-3: the middle point's sample, 5, is above the band 4 and in the band 5: no row is left
     ∷ fills 4 (blockOf (cubes 2) (plus 35 13) (middle (91 := 128))) 35 95 (answer 10 24 0 0) []
-    ∷ fills 5 (blockOf (cubes 2) (plus 35 13) (middle (91 := 128))) 35 95 (answer 0 0 0 0) []
+    ∷ fills 5 (blockOf (cubes 2) (plus 35 13) (middle (91 := 128))) 35 95 (answer 0 0 0 0) (map (λ p. p := 15) (below 35))
     -- "a cut byte beside a zero label is simply not live": point 14 is in the band, and the cut towards it does not move the middle point
     ∷ fills 2 (blockOf (cubes 2) (set (plus 35 13) 14 (negℤ (pos 3))) (middle (91 := 63))) 35 3 (answer 0 0 1 0) (13 := 1 ∷ [])
-    ∷ fills 3 (blockOf (cubes 2) (set (plus 35 13) 14 (negℤ (pos 3))) (middle (91 := 63))) 35 3 (answer 10 24 0 0) []
+    ∷ fills 3 (blockOf (cubes 2) (set (plus 35 13) 14 (negℤ (pos 3))) (middle (91 := 63))) 35 3 (answer 10 24 0 0) (14 := 15 ∷ [])
+    -- F-8: a point of the rim with label zero from the start has the mark, one that moves its code, and "M now counts codes 1 to 14"
+    ∷ fills 0 (blockOf (cubes 2) (set (plus 35 13) 0 (pos 0)) (middle (91 := 193))) 35 95 (answer 10 24 1 0) (0 := 15 ∷ 14 := 8 ∷ [])
     ∷ []
 
 abbrev called : Call → Outcome

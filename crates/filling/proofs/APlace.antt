@@ -28,16 +28,22 @@ questions =
     record { cubes = 0; cuts = []; state = []; id = 0; placed = unplaced 1 }
     ∷ record { cubes = 1; cuts = replicate 62 9; state = []; id = 0; placed = unplaced 3 }
     ∷ record { cubes = 1; cuts = replicate 63 9; state = replicate 8 0; id = 0; placed = unplaced 4 }
-    -- a point at rest; moved to a cut, and to one that does not violate it; 15 is no code, though its direction would be that of 8
+    -- a point at rest; moved to a cut, and to one that does not violate it
     ∷ ask [] [] 7 (at 512 512 512)
     ∷ ask (0 := 193 ∷ []) (1 := 8 ∷ []) 1 (at 386 0 0)
     ∷ ask (0 := 192 ∷ []) (1 := 8 ∷ []) 1 (unplaced 9)
-    ∷ ask (0 := 193 ∷ []) (1 := 15 ∷ []) 1 (unplaced 9)
-    -- a cut; one that is not there; those of an end with a byte that is not 0; past the last id
+    -- F-8: "Code 15 is believable", and its point at rest, though its direction would be that of 8; 16 is not, nor is 255
+    ∷ ask (0 := 193 ∷ []) (1 := 15 ∷ []) 1 (at 512 0 0)
+    ∷ ask [] (1 := 15 ∷ []) 1 (at 512 0 0)
+    ∷ ask (0 := 193 ∷ []) (1 := 16 ∷ []) 1 (unplaced 9)
+    ∷ ask (0 := 193 ∷ []) (1 := 255 ∷ []) 1 (unplaced 9)
+    -- a cut; one that is not there; those of an end with a byte that is not 0, F-8: "A cut with an end coded 15 is refused by 8"; past the
+    -- last id
     ∷ ask (0 := 193 ∷ []) [] 9 (at 386 0 0)
     ∷ ask [] [] 9 (unplaced 8)
     ∷ ask (0 := 193 ∷ []) (0 := 15 ∷ []) 9 (unplaced 8)
     ∷ ask (0 := 193 ∷ []) (1 := 15 ∷ []) 9 (unplaced 8)
+    ∷ ask (0 := 193 ∷ []) (1 := 16 ∷ []) 9 (unplaced 8)
     ∷ ask [] [] 72 (unplaced 8)
     ∷ []
 

@@ -1,7 +1,7 @@
--- Document 02, F-3: "Band 0 changes no answer". Filling as it was before it took a band, and that with the band 0 it is the same, whatever is
+-- Document 02, F-3: "Band 0 changes no answer". Filling as it would be without a band, and that with the band 0 it is the same, whatever is
 -- handed in. Assumes nothing.
---     readingBefore, fillBefore   the definitions before F-3: a label is its sample's sign, and no band is asked for
---     band-0                      the answer and both tables are those of before
+--     readingBefore, fillBefore   the definitions without F-3: a label is its sample's sign, and no band is asked for
+--     band-0                      the answer and both tables are those without it
 use Prim.Native.Nat.{ℕ, _*_}
 use mathlib.Core.Path.{_≡_, refl}
 use mathlib.Core.Bool.{not}

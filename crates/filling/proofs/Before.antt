@@ -1,8 +1,9 @@
--- Document 02, F-2: M, and what the place call answers, by the table of the nearest cut and by that of document 01's choice. Assumes nothing.
+-- Document 02, F-2: M, and what the place call answers, by the table of the nearest cut and by that of document 01's choice, both with
+-- F-8's mark. Assumes nothing.
 --     moved-as-before   M is the same
 --     located-or-two    an id has the same answer, or it is a point that two cuts violated at its turn
 use Prim.Native.Nat.{ℕ, _-_, _/_, _%_, _≤_, _<_}
-use mathlib.Core.Path.{_≡_, refl, sym, ap, _∙_}
+use mathlib.Core.Path.{_≡_, refl, sym, ap, subst, _∙_}
 use mathlib.Core.Logic.{_⊎_, inl, inr}
 use mathlib.Core.Bool.{not, _&&_}
 use lib.ListN.{length, getD}
@@ -15,11 +16,14 @@ use Rattle.lattice.specs.declared.Near.the-variants.{At, Nothing}
 use Rattle.lattice.specs.Counts.{points}
 use Rattle.lattice.specs.Direction.{asStart}
 use Rattle.lattice.specs.Edge.{neighbour, byteAt}
-use Rattle.moving.specs.Reading.{Reading, isMove, saysZero}
+use Rattle.moving.specs.declared.Label.{Label}
+use Rattle.moving.specs.Label.{isZero}
+use Rattle.moving.specs.State.{isMove, saysZero}
+use Rattle.moving.specs.Reading.{Reading}
 use Rattle.moving.specs.Moving.{stateAt, stateOf}
 use Rattle.moving.proofs.Bytes.{same-or}
-use Rattle.moving.proofs.SamePoints.{TwoViolate}
-use Rattle.moving.proofs.Moved.{state-reached, reached-nonzero}
+use Rattle.moving.proofs.SamePoints.{TwoViolate, same-label}
+use Rattle.moving.proofs.Moved.{state-reached, move-said}
 use Rattle.moving.proofs.Theorems.{stateBefore, same-points, same-byte-or-two, before-reached}
 use Rattle.geometry.specs.Place.{pointPlace, placeOf}
 use Rattle.filling.specs.Fill.{movedCount}
@@ -36,14 +40,18 @@ module _ (m : Reading) where
         | inr n ↦ ap not (ne-eqb _ _ n ∙ sym (ne-eqb _ _ (λ z. n (same-points m .back p z))))
       ]
 
-  same-move : (p : ℕ) → isMove (getD (stateBefore m) p 0) ≡ isMove (getD (stateOf m) p 0)
-  same-move p = reached-nonzero m (before-reached m) p ∙ same-mark p ∙ sym (reached-nonzero m (state-reached m) p)
+  same-move : (p : ℕ) → p < points (m .sizes) → isMove (getD (stateBefore m) p 0) ≡ isMove (getD (stateOf m) p 0)
+  same-move p l =
+      sym (move-said m (before-reached m) p l)
+      ∙ ap (λ (z : Label). isZero z && not (isZero (m .label p))) (same-label m (same-points m) p)
+      ∙ move-said m (state-reached m) p l
 
   pub moved-as-before : movedCount (stateBefore m) ≡ movedCount (stateOf m)
   unfolding movedCount
   moved-as-before =
       rw long
-      (count-same (λ p. isMove (getD (stateBefore m) p 0)) (λ p. isMove (getD (stateOf m) p 0)) (length (stateOf m)) (λ p l. same-move p))
+      (count-same (λ p. isMove (getD (stateBefore m) p 0)) (λ p. isMove (getD (stateOf m) p 0)) (length (stateOf m))
+      (λ p l. same-move p (subst (λ (n : ℕ). p < n) (state-reached m .long) l)))
 
   -- an id's refusal and its place decide the answer
   same-answer : (id : ℕ) → idFault (m .sizes) (m .cuts) (stateBefore m) id ≡ idFault (m .sizes) (m .cuts) (stateOf m) id

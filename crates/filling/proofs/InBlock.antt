@@ -19,7 +19,7 @@ use Rattle.lattice.specs.Counts.{size, sizesFit, points}
 use Rattle.lattice.specs.Direction.{Code, asStart}
 use Rattle.lattice.specs.Edge.{neighbour, byteAt, edgeByte}
 use Rattle.lattice.proofs.Sized.{fits-sized, size-high}
-use Rattle.moving.specs.Reading.{isMove}
+use Rattle.moving.specs.State.{isMove}
 use Rattle.moving.specs.Block.{Bytes}
 use Rattle.moving.proofs.Bytes.{move-code}
 use Rattle.geometry.specs.Place.{rest, cutPlace, movedPlace, pointPlace, placeOf}

@@ -7,4 +7,6 @@ pub mod Fits
 pub mod Written
 pub mod InBlock
 pub mod Before
+pub mod Told
+pub mod Unmarked
 pub mod BandZero

@@ -9,10 +9,11 @@ use Rattle.lattice.specs.Edge.{staysIn, farKind, farIndex, near, edgeByte}
 use Rattle.lattice.specs.Rim.{outermost, rimAt}
 use Rattle.moving.specs.Label.{signOf, signs, labelOf, labels, bandFits, isPlus, isZero, isMinus, opposed}
 use Rattle.moving.specs.Violation.{limit, measured, squared, violation, violated}
+use Rattle.moving.specs.State.{isMove, noMove}
 use Rattle.moving.specs.Nearest.{nearer, nearestTo}
-use Rattle.moving.specs.Reading.{isMove, labelAfter, live, violationAlong}
+use Rattle.moving.specs.Reading.{labelAfter, live, violationAlong}
 use Rattle.moving.specs.Order.{moveTo, turn, moveBy}
-use Rattle.moving.specs.Moving.{choice, outset, stateAt}
+use Rattle.moving.specs.Moving.{markOf, choice, outset, stateAt}
 use Rattle.stencil.specs.Tetrahedron.{unit, around, offset, corner, cornerNumber, inTurn, inCube, inLine, inLayer, inAxis, tetrahedraOf}
 use Rattle.stencil.specs.Stencil.{cut, choose, stencilOf, rowsOf, rowsFor}
 use Rattle.stencil.specs.Id.{leadsTo, codeBetween, idOf}
@@ -28,8 +29,8 @@ unfolding
     gather from firstFrom count tableOf
     sizesFit cells points tetrahedra linear cell kindOf directions direction long isStart directionOf step
     staysIn farKind farIndex near edgeByte outermost rimAt
-    signOf signs labelOf labels bandFits isPlus isZero isMinus opposed limit measured squared violation violated isMove labelAfter live violationAlong
-    nearer nearestTo moveTo turn moveBy choice outset stateAt
+    signOf signs labelOf labels bandFits isPlus isZero isMinus opposed limit measured squared violation violated
+    isMove noMove labelAfter live violationAlong nearer nearestTo moveTo turn moveBy markOf choice outset stateAt
     unit around offset corner cornerNumber inTurn inCube inLine inLayer inAxis tetrahedraOf
     cut choose stencilOf rowsOf rowsFor leadsTo codeBetween idOf
     latticePlace cutPlace movedPlace pointPlace placeOf cross dot triple sixVolume

@@ -4,18 +4,19 @@ use Prim.Native.Nat.{ℕ, zero, suc, _+_, _*_, _≤_, _<_}
 use native.Mathlib.Omega.{arith}
 use mathlib.Core.Path.{_≡_, refl, sym, _∙_}
 use mathlib.Core.Logic.{inl, inr}
-use mathlib.Core.Bool.{Bool, true, false, not}
+use mathlib.Core.Bool.{Bool, true, false}
 use mathlib.Core.List.{List, [], _∷_, _++_}
 use lib.ListN.{length, getD, drop}
-use lib.Dec.{leb, eqb}
+use lib.Dec.{leb}
 use borrow.Author.Tests.{le-leb, lt-leb}
 use Rattle.basics.specs.Choice.{if_then_else_}
 use Rattle.basics.specs.Lists.{gather, count}
 use Rattle.basics.proofs.Mapped.{read-all}
 use Rattle.lattice.specs.Counts.{points}
+use Rattle.moving.specs.State.{isMove}
 use Rattle.moving.specs.Moving.{stateOf}
 use Rattle.moving.specs.Block.{Block, readingOf}
-use Rattle.moving.proofs.Moved.{stateAt-long, state-reached, reached-nonzero}
+use Rattle.moving.proofs.Moved.{stateAt-long}
 use Rattle.stencil.specs.Row.{Row, row}
 use Rattle.filling.specs.Mesh.{meshOf, table}
 use Rattle.filling.specs.Demand.{nthRow, rowRead, rowsRead}
@@ -50,13 +51,10 @@ module _ (band : ℕ) (b : Block) (state rows : List ℕ) where
     unfolding written
     rows-counted = rw (accepted-fills band b state rows h l) refl
 
-    -- "M, the non-zero state bytes"
-    pub moved-counted : fill band b state rows .answer .moved ≡ count (λ p. not (eqb (getD (stateOf (readingOf band b)) p 0) 0)) (points (b .sizes))
+    -- "M now counts codes 1 to 14"
+    pub moved-counted : fill band b state rows .answer .moved ≡ count (λ p. isMove (getD (stateOf (readingOf band b)) p 0)) (points (b .sizes))
     unfolding written movedCount
-    moved-counted =
-        let m = readingOf band b in
-        let bytes = reached-nonzero m (state-reached m) in
-        rw (accepted-fills band b state rows h l, stateAt-long m (points (b .sizes))) (λ t. count (λ p. bytes p t) (points (b .sizes)))
+    moved-counted = rw (accepted-fills band b state rows h l, stateAt-long (readingOf band b) (points (b .sizes))) refl
 
     pub state-written : fill band b state rows .state ≡ stateOf (readingOf band b)
     unfolding written

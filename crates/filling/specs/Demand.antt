@@ -14,7 +14,8 @@ use Rattle.lattice.specs.Counts.{points}
 use Rattle.lattice.specs.Direction.{asStart}
 use Rattle.lattice.specs.Edge.{neighbour, byteAt}
 use Rattle.moving.specs.declared.Label.the-variants.{Zero}
-use Rattle.moving.specs.Reading.{Reading, isMove}
+use Rattle.moving.specs.State.{isMove}
+use Rattle.moving.specs.Reading.{Reading}
 use Rattle.moving.specs.Moving.{stateOf}
 use Rattle.stencil.specs.Tetrahedron.{Vertex}
 use Rattle.stencil.specs.Row.{Row, row, Third, faceOf, faceAt, Opposite, Holds}

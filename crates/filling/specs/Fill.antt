@@ -9,7 +9,8 @@ use Rattle.basics.specs.Choice.{if_then_else_}
 use Rattle.basics.specs.Lists.{count}
 use Rattle.lattice.specs.Counts.{sizesFit, points}
 use Rattle.moving.specs.Label.{signs, bandFits}
-use Rattle.moving.specs.Reading.{Reading, isMove}
+use Rattle.moving.specs.State.{isMove}
+use Rattle.moving.specs.Reading.{Reading}
 use Rattle.moving.specs.Moving.{stateOf}
 use Rattle.moving.specs.Block.{Block, readingOf}
 use Rattle.filling.specs.declared.Filled.{Filled}
@@ -22,7 +23,7 @@ pub record Outcome : Type 0 where
   pub state : List ℕ
   pub rows : List ℕ
 
--- "M, the non-zero state bytes" of a filled table, which are codes: how many points moved
+-- how many points moved. F-8: "M now counts codes 1 to 14"
 unfoldable pub movedCount : List ℕ → ℕ
 movedCount state = count (λ p. isMove (getD state p 0)) (length state)
 

@@ -14,7 +14,7 @@ use Rattle.lattice.specs.Counts.{sizesFit, points}
 use Rattle.lattice.specs.Direction.{asStart}
 use Rattle.lattice.specs.Edge.{neighbour, byteAt, edgeByte}
 use Rattle.moving.specs.Violation.{rule1, violates}
-use Rattle.moving.specs.Reading.{isMove, saysZero}
+use Rattle.moving.specs.State.{isMove, noMove, saysZero}
 use Rattle.geometry.specs.Place.{Place, placeOf}
 use Rattle.filling.specs.declared.Placed.{Placed}
 
@@ -27,7 +27,8 @@ abbrev pub unplaced : ℕ → Placed
 unplaced n = record { number = n; x = 0; y = 0; z = 0 }
 
 module _ (s : Sizes) (cuts state : List ℕ) where
-  -- "9: the state byte is above 14, or its edge does not exist, has byte 0 or does not violate the point"
+  -- "9: the state byte is above 14, or its edge does not exist, has byte 0 or does not violate the point"; F-8: "Code 15 is believable, so
+  -- 9 begins above 15"
   unfoldable pub reaches : ℕ → ℕ → Near → Bool
   reaches p c Nothing = false
   reaches p c (At q) = violates rule1 c (getD cuts (edgeByte p c q) 0)
@@ -35,9 +36,9 @@ module _ (s : Sizes) (cuts state : List ℕ) where
   unfoldable pub believable : ℕ → Bool
   believable p =
       let c = getD state p 0 in
-      if eqb c 0 then true else isMove c && reaches p c (neighbour s p c)
+      if noMove c then true else isMove c && reaches p c (neighbour s p c)
 
-  -- "8: .. its edge does not exist, has byte 0, or has an end with a non-zero state byte"
+  -- "8: .. its edge does not exist, has byte 0, or has an end with a non-zero state byte"; F-8: "A cut with an end coded 15 is refused by 8"
   unfoldable pub standsTo : ℕ → ℕ → Near → Bool
   standsTo p d Nothing = false
   standsTo p d (At q) =

@@ -1,6 +1,6 @@
--- The places of P2, P4, P6 and P8 of document 01, where points of a block of 2 by 2 by 2 cubes move to; and which way round a positive
--- six-volume is. Assumes nothing. (Files are checked in the order of their names: this one first, so that a wrong rule is refused by
--- what it gives.)
+-- The places of P2, P4, P6 and P8 of document 01, where points of a block of 2 by 2 by 2 cubes move to; that of a point with F-8's mark, which
+-- does not; and which way round a positive six-volume is. Assumes nothing. (Files are checked in the order of their names: this one first,
+-- so that a wrong rule is refused by what it gives.)
 use Prim.Native.Nat.{ℕ}
 use mathlib.Core.Path.{_≡_, refl}
 use mathlib.Core.List.{[], _∷_}
@@ -11,7 +11,7 @@ use Rattle.lattice.specs.Counts.{cells, points}
 use Rattle.lattice.specs.Point.{linear, cell, kindOf}
 use Rattle.lattice.specs.Direction.{directions, direction, long, isStart, directionOf, step}
 use Rattle.lattice.specs.Edge.{staysIn, farKind, farIndex, near}
-use Rattle.moving.specs.Reading.{isMove}
+use Rattle.moving.specs.State.{isMove}
 use Rattle.geometry.specs.Place.{Place, latticePlace, cutPlace, movedPlace, pointPlace, placeOf}
 use Rattle.geometry.specs.Volume.{cross, dot, triple, sixVolume}
 
@@ -30,11 +30,13 @@ pub places :
     ∷ movedTo (91 := 193) (14 := 8) 14
     ∷ movedTo (94 := 105) (13 := 4) 13
     ∷ movedTo (94 := 151) (34 := 11) 34
+    ∷ movedTo (91 := 193) (14 := 15) 14
     ∷ []
     ≡ at (pos 638) (pos 512) (pos 512)
     ∷ at (pos 898) (pos 512) (pos 512)
     ∷ at (pos 617) (pos 617) (pos 617)
     ∷ at (pos 663) (pos 663) (pos 663)
+    ∷ at (pos 1024) (pos 512) (pos 512)
     ∷ []
 unfolding
     movedTo tableOf latticePlace cutPlace movedPlace pointPlace placeOf

@@ -15,7 +15,7 @@ use Rattle.lattice.specs.Counts.{points}
 use Rattle.lattice.specs.Point.{doubled, kindOf, indexOf}
 use Rattle.lattice.specs.Direction.{Step, direction, isStart, directionOf}
 use Rattle.lattice.specs.Edge.{neighbour, byteAt}
-use Rattle.moving.specs.Reading.{isMove}
+use Rattle.moving.specs.State.{isMove}
 
 -- three signed coordinates
 abbrev pub Place : Type 0
@@ -41,7 +41,7 @@ unfoldable pub movedPlace : Sizes → List ℕ → ℕ → ℕ → Near → Plac
 movedPlace s cuts p c Nothing = rest s p
 movedPlace s cuts p c (At q) = cutPlace s cuts (if isStart c then p else q) (directionOf c)
 
--- a point whose state byte is a code "moves to that cut's place"; any other stands where it was
+-- a point whose state byte is a move "moves to that cut's place"; any other stands where it was. F-8: "Its place is its own place"
 unfoldable pub pointPlace : Sizes → List ℕ → List ℕ → ℕ → Place
 pointPlace s cuts state p =
     let c = getD state p 0 in

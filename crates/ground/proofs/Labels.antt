@@ -1,11 +1,13 @@
 -- Labels of samples, as the code tests them: on the numbers read back from their bits. Assumes nothing.
 --     above, beneath                    plus is outside the band above zero, minus is outside it below
 --     plus-test, minus-test             as the code compares them, both cast to one type (sample-fits, minus-fits)
---     handed, plus-handed, ..           a sample that was read and handed on
+--     high-fits, .., low-end            the ends of a band that is taken, as samples
+--     handed, compared, plus-handed, .. samples that were read and handed on
 --     zero-plus, zero-other, opposed-.. labels by the tests of plus and minus
 --     both-lack                         two samples that both lack a label are not opposed
 --     less-plus, .., not-less-minus     the order of two samples, and their labels
-use Prim.Native.Nat.{ℕ, zero, suc, _^_, _<_}
+--     mark-beneath, mark-above, mark-within   the state byte at the outset, by the ends of the band
+use Prim.Native.Nat.{ℕ, zero, suc, _^_, _<_, _≤_}
 use native.Mathlib.Omega.{arith}
 use mathlib.Core.Path.{_≡_, refl, sym, ap, subst, _∙_}
 use mathlib.Core.Logic.{inl, inr}
@@ -17,10 +19,13 @@ use borrow.Author.Tests.{lt-ltb, le-ltb, le-leb, ltb-true, ltb-false, eq-eqb, ne
 use mir.Syntax.{w16, w64}
 use mir.Val.{ofZ, toZ, SFits}
 use mir.ValLaws.{toZ-ofZ}
+use Rattle.basics.specs.Choice.{if_then_else_}
 use Rattle.basics.proofs.Test.{lt-or}
 use Rattle.moving.specs.declared.Label.{Label}
 use Rattle.moving.specs.declared.Label.the-variants.{Minus, Zero, Plus}
-use Rattle.moving.specs.Label.{signOf, labelOf, isPlus, isZero, isMinus, opposed}
+use Rattle.moving.specs.Label.{bandMost, signOf, labelOf, isPlus, isZero, isMinus, opposed}
+use Rattle.moving.specs.State.{skinMark}
+use Rattle.moving.specs.Moving.{markOf}
 use Rattle.moving.proofs.Band.{label-in, label-out, label-or}
 use Rattle.ground.specs.inner.Labels.{hasLabel}
 
@@ -70,6 +75,23 @@ minus-fits band h = rw (band-small band h) (go band h)
     go : (n : ℕ) → n < 2 ^ 32 → SFits w64 (pos 0 -ℤ pos n)
     go zero h = record { sfits = omega arith }
     go (suc n) h = rw (low-is n) (record { sfits = omega arith })
+
+-- the ends of a band that is taken are samples
+pub high-fits : (band : ℕ) → band ≤ bandMost → SFits w16 (pos band)
+high-fits band h = record { sfits = omega arith }
+
+pub high-is : (band : ℕ) → band ≤ bandMost → toZ w16 band ≡ pos band
+high-is band h = toZ-ofZ w16 (pos band) (high-fits band h)
+
+pub low-fits : (band : ℕ) → band ≤ bandMost → SFits w16 (pos 0 -ℤ toZ w16 band)
+low-fits band h = rw (high-is band h) (go band h)
+  where
+    go : (n : ℕ) → n ≤ bandMost → SFits w16 (pos 0 -ℤ pos n)
+    go zero h = record { sfits = omega arith }
+    go (suc n) h = rw (low-is n) (record { sfits = omega arith })
+
+pub low-end : (band : ℕ) → band ≤ bandMost → toZ w16 (ofZ w16 (pos 0 -ℤ toZ w16 band)) ≡ pos 0 -ℤ pos band
+low-end band h = toZ-ofZ w16 _ (low-fits band h) ∙ ap (λ (z : ℤ). pos 0 -ℤ z) (high-is band h)
 
 pub sample-fits : (x : ℤ) → SFits w16 x → SFits w64 (toZ w16 (ofZ w16 x))
 sample-fits x f = rw (toZ-ofZ w16 x f) (record { sfits = omega (arith, f .sfits) })
@@ -183,3 +205,31 @@ module _ (band : ℕ) (x y : ℤ) where
   pub not-less-minus : ltZ x y ≡ false → hasLabel false band y ≡ false → hasLabel false band x ≡ false
   unfolding hasLabel
   not-less-minus e f = sym (beneath band x) ∙ no-higher low y x (beneath band y ∙ f) e
+
+-- two samples that were handed over, compared
+pub compared : (x y : ℤ) {b : Bool} → mag x < 2 ^ 15 → mag y < 2 ^ 15 → ltZ (toZ w16 (ofZ w16 x)) (toZ w16 (ofZ w16 y)) ≡ b → ltZ x y ≡ b
+compared x y h k e = (λ i. ltZ (sym (handed x h) i) (sym (handed y k) i)) ∙ e
+
+-- the byte at the outset, by the ends of the band
+mark-is : (l : Label) {b : Bool} → b ≡ isZero l → (if b then skinMark else 0) ≡ markOf l
+unfolding markOf
+mark-is l e = rw (← e) refl
+
+minus-zero : (l : Label) → isMinus l ≡ true → false ≡ isZero l
+unfolding isMinus isZero
+minus-zero Minus e = refl
+minus-zero Zero e = false-true e
+minus-zero Plus e = false-true e
+
+module _ (band : ℕ) {low high : ℤ} (x : ℤ) (l : low ≡ pos 0 -ℤ pos band) (h : high ≡ pos band) where
+  pub mark-beneath : ltZ x low ≡ true → 0 ≡ markOf (labelOf band x)
+  mark-beneath e = mark-is (labelOf band x) (minus-zero (labelOf band x) (sym (beneath band x) ∙ (rw l at e)))
+
+  pub mark-above : ltZ high x ≡ true → 0 ≡ markOf (labelOf band x)
+  mark-above e = mark-is (labelOf band x) (zero-plus (labelOf band x) (sym (above band x) ∙ (rw h at e)))
+
+  pub mark-within : ltZ x low ≡ false → ltZ high x ≡ false → skinMark ≡ markOf (labelOf band x)
+  mark-within e f =
+      let not-plus = sym (above band x) ∙ (rw h at f) in
+      let not-minus = sym (beneath band x) ∙ (rw l at e) in
+      mark-is (labelOf band x) (ap not (sym not-minus) ∙ zero-other (labelOf band x) not-plus)

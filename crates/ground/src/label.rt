@@ -1,7 +1,7 @@
-// Labels of samples by a band: the one place where the code makes a label of a sample. By the band 0
-// a label is the sample's own sign.
+// Labels of samples by a band. By the band 0 a label is the sample's own sign. Which points begin with
+// the mark, as their labels are zero, is asked of `mark_of` (codes.rt).
 ghost use mathlib.Core.Path.{_≡_};
-ghost use Rattle.moving.specs.Label.{labelOf, bandFits, isPlus, isZero, isMinus, opposed};
+ghost use Rattle.moving.specs.Label.{labelOf, bandFits, isPlus, isMinus, opposed};
 ghost use Rattle.ground.specs.inner.Labels.{hasLabel};
 
 const BAND_MOST: u32 = 32767;
@@ -23,15 +23,6 @@ pub fn is_minus(band: u32, a: i16) -> bool
     ensures { λ r. ⌜ r ≡ isMinus (labelOf band a) ⌝ }
 {
     (a as i64) < -(band as i64)
-}
-
-pub fn is_zero(band: u32, a: i16) -> bool
-    ensures { λ r. ⌜ r ≡ isZero (labelOf band a) ⌝ }
-{
-    if is_plus(band, a) {
-        return false;
-    }
-    !is_minus(band, a)
 }
 
 // A sample's label is plus, or minus.

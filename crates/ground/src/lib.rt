@@ -1,6 +1,7 @@
-// The ground floor of the code: what the checks, moving, mending, places and rows stand on. Lines of
+// The ground floor of the code: what the checks, moving, mending, places, nodes and rows stand on. Lines of
 // points along x, far ends by strides, whole ranges of a table, eight bytes together, labels of
-// samples, the violation test and the six-volume.
+// samples, what state bytes say, the violation test and the six-volume.
+pub mod codes;
 mod joint;
 pub mod label;
 pub mod ranges;

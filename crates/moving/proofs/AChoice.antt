@@ -10,6 +10,7 @@ use Rattle.lattice.specs.Direction.{long, isStart, directionOf}
 use Rattle.moving.specs.declared.Violation.{Violation}
 use Rattle.moving.specs.declared.Violation.the-variants.{No, Distance}
 use Rattle.moving.specs.Violation.{rule1, limit, measured, squared, violation}
+use Rattle.moving.specs.State.{isMove}
 use Rattle.moving.specs.Nearest.{nearer, nearestTo, nearest}
 
 -- a cut byte against a point with a code
@@ -44,5 +45,5 @@ theBytes =
     ∷ []
 
 pub choices : map chosen theBytes ≡ 4 ∷ 1 ∷ 11 ∷ 11 ∷ 2 ∷ 3 ∷ 12 ∷ 0 ∷ []
-unfolding theBytes tableOf nearestTo nearer violation limit measured squared long isStart directionOf
+unfolding theBytes tableOf isMove nearestTo nearer violation limit measured squared long isStart directionOf
 choices = refl

@@ -2,7 +2,7 @@
 --     label-in, zero-in, label-out, label-or   a label is zero exactly if the sample's size is at most the band; any other is the sign
 --     label-raw, labels-raw, opposed-raw       by the band 0 it is always the sign
 --     plus-sign, opposed-signs                 what is plus by a band is above zero, and what is opposed by it has opposed signs
---     in-band-rests                            a point in the band never moves
+--     in-band-rests                            a point in the band never moves: it has the mark
 --     fits-banded, banded-fits                 the test of the band
 use Prim.Native.Nat.{ℕ, _≤_, _<_}
 use native.Mathlib.Omega.{arith}
@@ -15,9 +15,11 @@ use lib.IntN.{ℤ, pos, negsuc, natAbs}
 use lib.ListN.{getD}
 use borrow.Author.Tests.{le-leb, lt-leb, leb-true, eq-eqb, ne-eqb}
 use Rattle.basics.proofs.Test.{lt-or}
+use Rattle.lattice.specs.Counts.{points}
 use Rattle.moving.specs.declared.Label.{Label}
 use Rattle.moving.specs.declared.Label.the-variants.{Minus, Zero, Plus}
 use Rattle.moving.specs.Label.{signOf, labelOf, signs, labels, bandMost, bandFits, isPlus, isMinus, opposed}
+use Rattle.moving.specs.State.{skinMark}
 use Rattle.moving.specs.Block.{Block, readingOf}
 use Rattle.moving.specs.Moving.{stateOf}
 use Rattle.moving.proofs.Moved.{state-reached, reached-rests}
@@ -94,12 +96,12 @@ opposed-signs band a b t =
     none Plus t = t
 
 -- whatever moves were made, and so by the papers' rules
-pub in-band-rests : (band : ℕ) (b : Block) (p : ℕ) → natAbs (getD (b .samples) p (pos 0)) ≤ band
-    → getD (stateOf (readingOf band b)) p 0 ≡ 0
+pub in-band-rests : (band : ℕ) (b : Block) (p : ℕ) → p < points (b .sizes) → natAbs (getD (b .samples) p (pos 0)) ≤ band
+    → getD (stateOf (readingOf band b)) p 0 ≡ skinMark
 unfolding labels
-in-band-rests band b p h =
+in-band-rests band b p l h =
     let m = readingOf band b in
-    reached-rests m (state-reached m) p (label-in band (getD (b .samples) p (pos 0)) h)
+    reached-rests m (state-reached m) p l (label-in band (getD (b .samples) p (pos 0)) h)
 
 pub fits-banded : (band : ℕ) → bandFits band ≡ true → band ≤ bandMost
 unfolding bandFits

@@ -8,9 +8,9 @@ use mathlib.Core.List.{List}
 use lib.ListN.{length, getD, set}
 use lib.Seq.{getD-set-same, getD-set-other}
 use lib.Dec.{T, eqb, leb, leb→le}
-use borrow.Author.Tests.{eqb-true, eqb-false, eq-eqb, ne-eqb, le-leb}
+use borrow.Author.Tests.{eqb-true, eqb-false, eq-eqb, ne-eqb, le-leb, lt-leb}
 use Rattle.basics.specs.Choice.{if_then_else_}
-use Rattle.basics.proofs.Test.{&&-l, &&-r, &&-i, true-T, T-true}
+use Rattle.basics.proofs.Test.{&&-l, &&-r, &&-i, or-cases, true-T, T-true}
 use Rattle.lattice.specs.declared.Near.{Near}
 use Rattle.lattice.specs.declared.Near.the-variants.{At, Nothing}
 use Rattle.lattice.specs.Counts.{points}
@@ -21,7 +21,8 @@ use Rattle.moving.specs.declared.Label.the-variants.{Zero}
 use Rattle.moving.specs.declared.Violation.the-variants.{No, Distance}
 use Rattle.moving.specs.Label.{isZero}
 use Rattle.moving.specs.Violation.{Rule, limit, measured, squared, violation, violated, violates}
-use Rattle.moving.specs.Reading.{Reading, isMove, saysZero, labelAfter, live, cutAlong, violationAlong}
+use Rattle.moving.specs.State.{isMove, skinMark, noMove}
+use Rattle.moving.specs.Reading.{Reading, labelAfter, live, cutAlong, violationAlong}
 use Rattle.moving.proofs.Settled.{NonZero, Violating, violatedBy, MayMove}
 
 -- two numbers are equal or not
@@ -32,7 +33,7 @@ same-or a b = go (eqb a b) refl
     go true e = inl (eqb-true a b e)
     go false e = inr (eqb-false a b e)
 
--- codes are moves and moves codes, 0 is none
+-- codes are moves and moves codes; 0 and the mark are none
 pub code-move : (c : ℕ) → Code c → isMove c ≡ true
 unfolding isMove
 code-move c h = simp (le-leb 1 c (h .low), le-leb c 14 (h .high))
@@ -43,12 +44,43 @@ move-code c e =
     let t = true-T (leb 1 c && leb c 14) e in
     record { low = leb→le 1 c (&&-l (leb 1 c) _ t); high = leb→le c 14 (&&-r (leb 1 c) _ t) }
 
-pub code-nonzero : (c : ℕ) → Code c → isMove c ≡ saysZero c
-code-nonzero c h = rw (code-move c h, ne-eqb c 0 (λ e. omega (arith, h .low))) refl
-
 pub zero-rests : (c : ℕ) → c ≡ 0 → isMove c ≡ false
 unfolding isMove
 zero-rests c e = rw e refl
+
+pub mark-rests : (c : ℕ) → c ≡ skinMark → isMove c ≡ false
+unfolding isMove
+mark-rests c e = rw e refl
+
+pub strange-rests : (c : ℕ) → 14 < c → isMove c ≡ false
+unfolding isMove
+strange-rests c l = rw (lt-leb c 14 l, le-leb 1 c (omega arith)) refl
+
+-- no move is 0 or the mark, and only these
+pub zero-none : (c : ℕ) → c ≡ 0 → noMove c ≡ true
+unfolding noMove
+zero-none c e = rw e refl
+
+pub mark-none : (c : ℕ) → c ≡ skinMark → noMove c ≡ true
+unfolding noMove
+mark-none c e = rw e refl
+
+-- so neither is a move
+pub none-rests : (c : ℕ) → noMove c ≡ true → isMove c ≡ false
+unfolding noMove
+none-rests c e =
+    elim (or-cases (eqb c 0) (eqb c skinMark) (true-T _ e)) [
+      | inl t ↦ zero-rests c (eqb-true c 0 (T-true _ t))
+      | inr t ↦ mark-rests c (eqb-true c skinMark (T-true _ t))
+    ]
+
+pub code-some : (c : ℕ) → Code c → noMove c ≡ false
+unfolding noMove
+code-some c h = rw (ne-eqb c 0 (λ e. omega (arith, h .low)), ne-eqb c skinMark (λ e. omega (arith, h .high))) refl
+
+pub strange-some : (c : ℕ) → skinMark < c → noMove c ≡ false
+unfolding noMove
+strange-some c l = rw (ne-eqb c 0 (λ e. omega arith), ne-eqb c skinMark (λ e. omega arith)) refl
 
 -- an entry of a table after one of them was set to a code: 0 only if it was 0 before
 pub set-zero : (t : List ℕ) (p c q : ℕ) → p < length t → Code c → getD (set t p c) q 0 ≡ 0 → getD t q 0 ≡ 0

@@ -19,7 +19,7 @@ module _ (m : Reading) where
   -- F-2's laws of the code by which a point moves: it violates, none that violates is nearer, none as near has a lower code
   pub choice-nearest : (t : List ℕ) (p : ℕ) → (choice m t p ≡ 0 → ⊥) → (d : ℕ) × Nearest (violationBy m t p) 14 (choice m t p) d
   unfolding choice
-  choice-nearest t p n = elim (nearest-or (violationBy m t p) 14) [ inl z ↦ absurd (n (z .0)) | inr g ↦ g ]
+  choice-nearest t p n = elim (nearest-or (violationBy m t p) 14 (omega arith)) [ inl z ↦ absurd (n (z .0)) | inr g ↦ g ]
 
   pub choice-sound : Sound m (choice m)
   unfolding violated
@@ -30,7 +30,7 @@ module _ (m : Reading) where
   choice-complete : (p : ℕ) → Complete m (choice m) p
   unfolding choice violated
   choice-complete p t z c q v =
-      elim (nearest-or (violationBy m t p) 14) [
+      elim (nearest-or (violationBy m t p) 14 (omega arith)) [
         | inl h ↦ subst (λ (w : Violation). T (violated w)) (h .1 c (v .edge .code .low) (v .edge .code .high)) (violating-i m t p c q v)
         | inr g ↦ omega (arith, g .1 .low)
       ]

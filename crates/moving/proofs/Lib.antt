@@ -14,4 +14,5 @@ pub mod First
 pub mod SamePoints
 pub mod Moved
 pub mod Band
+pub mod Unmarked
 pub mod Theorems

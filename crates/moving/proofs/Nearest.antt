@@ -11,13 +11,14 @@ use native.Mathlib.Omega.{arith}
 use mathlib.Core.Path.{_≡_, refl, sym, ap, subst, _∙_}
 use mathlib.Core.Logic.{_⊎_, inl, inr}
 use lib.Dec.{T}
-use borrow.Author.Tests.{ne-eqb, lt-ltb, le-ltb}
+use borrow.Author.Tests.{lt-ltb, le-ltb}
 use Rattle.basics.specs.Choice.{if_then_else_}
 use Rattle.basics.proofs.Test.{lt-or}
 use Rattle.moving.specs.declared.Violation.{Violation}
 use Rattle.moving.specs.declared.Violation.the-variants.{No, Distance}
 use Rattle.moving.specs.Violation.{violated}
 use Rattle.moving.specs.Nearest.{nearer, byCode, nearestTo}
+use Rattle.moving.proofs.Bytes.{code-move, zero-rests}
 
 -- of two distances that are one
 same-distance : {v : Violation} {d e : ℕ} → v ≡ Distance d → v ≡ Distance e → d ≡ e
@@ -80,31 +81,32 @@ module _ (by : ℕ → Violation) where
         tie = h .tie;
       }
 
-  nearest-step : (n c : ℕ) → Either n c → (v : Violation) → by (suc n) ≡ v
+  nearest-step : (n c : ℕ) → n ≤ 14 → Either n c → (v : Violation) → by (suc n) ≡ v
       → Either (suc n) (if nearer v (byCode by c) then suc n else c)
   unfolding nearer
-  nearest-step n c (inl (z, q)) No e = inl (z, quiet-on n q e)
-  nearest-step n c (inl (z, q)) (Distance x) e =
-      rw z (inr (x, nearest-new n x e (λ j y l u w. absurd (no-distance (q j l u) w))))
-  nearest-step n c (inr (d, h)) No e = inr (d, nearest-still n c d h (λ x w. absurd (no-distance e w)))
-  nearest-step n c (inr (d, h)) (Distance x) e =
-      rw (ne-eqb c 0 (λ z. omega (arith, h .low)), h .at)
+  nearest-step n c k (inl (z, q)) No e = inl (z, quiet-on n q e)
+  nearest-step n c k (inl (z, q)) (Distance x) e =
+      rw (zero-rests c z) (inr (x, nearest-new n x e (λ j y l u w. absurd (no-distance (q j l u) w))))
+  nearest-step n c k (inr (d, h)) No e = inr (d, nearest-still n c d h (λ x w. absurd (no-distance e w)))
+  nearest-step n c k (inr (d, h)) (Distance x) e =
+      rw (code-move c (record { low = h .low; high = omega (arith, h .high) }), h .at)
       (elim (lt-or x d) [
         | inl l ↦ rw (lt-ltb x d l) (inr (x, nearest-new n x e (λ j y a b w. omega (arith, h .least j y a b w))))
         | inr l ↦ rw (le-ltb x d l) (inr (d, nearest-still n c d h (λ y w. omega (arith, same-distance e w))))
       ])
 
-  pub nearest-or : (n : ℕ) → Either n (nearestTo by n)
+  -- n being a code, or 0
+  pub nearest-or : (n : ℕ) → n ≤ 14 → Either n (nearestTo by n)
   unfolding nearestTo
-  nearest-or zero = inl (refl, λ e l u. absurd (omega arith))
-  nearest-or (suc n) = nearest-step n (nearestTo by n) (nearest-or n) (by (suc n)) refl
+  nearest-or zero k = inl (refl, λ e l u. absurd (omega arith))
+  nearest-or (suc n) k = nearest-step n (nearestTo by n) (omega arith) (nearest-or n (omega arith)) (by (suc n)) refl
 
-  pub nearest-none : (n : ℕ) → Quiet n → nearestTo by n ≡ 0
-  nearest-none n q =
-      elim (nearest-or n) [ inl z ↦ z .0 | inr g ↦ (let h = g .1 in absurd (no-distance (q _ (h .low) (h .high)) (h .at))) ]
+  pub nearest-none : (n : ℕ) → n ≤ 14 → Quiet n → nearestTo by n ≡ 0
+  nearest-none n k q =
+      elim (nearest-or n k) [ inl z ↦ z .0 | inr g ↦ (let h = g .1 in absurd (no-distance (q _ (h .low) (h .high)) (h .at))) ]
 
-  pub nearest-le : (n : ℕ) → nearestTo by n ≤ n
-  nearest-le n = elim (nearest-or n) [ inl z ↦ omega (arith, z .0) | inr g ↦ g .1 .high ]
+  pub nearest-le : (n : ℕ) → n ≤ 14 → nearestTo by n ≤ n
+  nearest-le n k = elim (nearest-or n k) [ inl z ↦ omega (arith, z .0) | inr g ↦ g .1 .high ]
 
   pub nearest-unique : {n c e d x : ℕ} → Nearest n c d → Nearest n e x → c ≡ e
   nearest-unique {c = c} {e = e} {d = d} {x = x} h g =
@@ -117,24 +119,24 @@ module _ (by : ℕ → Violation) where
       ]
 
 -- g violates only as f does
-module _ (f g : ℕ → Violation) (n : ℕ) (fewer : (e : ℕ) → 1 ≤ e → e ≤ n → (g e ≡ f e) ⊎ (g e ≡ No)) where
+module _ (f g : ℕ → Violation) (n : ℕ) (k : n ≤ 14) (fewer : (e : ℕ) → 1 ≤ e → e ≤ n → (g e ≡ f e) ⊎ (g e ≡ No)) where
   fewer-distance : (e x : ℕ) → 1 ≤ e → e ≤ n → g e ≡ Distance x → f e ≡ Distance x
   fewer-distance e x l u w = elim (fewer e l u) [ inl s ↦ sym s ∙ w | inr z ↦ absurd (no-distance z w) ]
 
   pub fewer-none : nearestTo f n ≡ 0 → nearestTo g n ≡ 0
   fewer-none z =
-      elim (nearest-or f n) [
-        | inl q ↦ nearest-none g n (λ e l u. elim (fewer e l u) [ inl s ↦ s ∙ q .1 e l u | inr w ↦ w ])
+      elim (nearest-or f n k) [
+        | inl q ↦ nearest-none g n k (λ e l u. elim (fewer e l u) [ inl s ↦ s ∙ q .1 e l u | inr w ↦ w ])
         | inr h ↦ absurd (omega (arith, h .1 .low))
       ]
 
   pub fewer-same : g (nearestTo f n) ≡ f (nearestTo f n) → nearestTo g n ≡ nearestTo f n
   fewer-same s =
-      elim (nearest-or f n) [
+      elim (nearest-or f n k) [
         | inl q ↦ fewer-none (q .0) ∙ sym (q .0)
-        | inr (d, h) ↦ elim (nearest-or g n) [
+        | inr (d, h) ↦ elim (nearest-or g n k) [
           | inl q ↦ absurd (no-distance (q .1 _ (h .low) (h .high)) (s ∙ h .at))
-          | inr (x, k) ↦
+          | inr (x, j) ↦
               let still : Nearest g n (nearestTo f n) d =
               record {
                 low = h .low;
@@ -143,6 +145,6 @@ module _ (f g : ℕ → Violation) (n : ℕ) (fewer : (e : ℕ) → 1 ≤ e → 
                 least = λ e y l u w. h .least e y l u (fewer-distance e y l u w);
                 tie = λ e y l u w. h .tie e y l u (fewer-distance e y l (omega (arith, h .high)) w);
               } in
-              nearest-unique g k still
+              nearest-unique g j still
         ]
       ]

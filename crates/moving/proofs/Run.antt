@@ -22,7 +22,7 @@ module _ {m : Reading} {s : List ℕ} (long : length s ≡ points (m .sizes)) wh
   run-length start = long
   run-length (move {t = t} {p = p} {c = c} r v) = length-set t p c ∙ run-length r
 
-  -- a point that has not moved at the end had not moved before; so labels only go to zero, and live cuts only disappear
+  -- a byte that is 0 at the end was 0 before; so labels only go to zero, and live cuts only disappear
   pub run-unmoved : {t : List ℕ} (q : ℕ) → Run m s t → getD t q 0 ≡ 0 → getD s q 0 ≡ 0
   run-unmoved q start z = z
   run-unmoved q (move {t = t} {p = p} {c = c} r v) z =

@@ -1,5 +1,5 @@
 -- Which of the cuts that violate it a point moves to does not change which points move. Assumes nothing.
---     SameMoved, TwoViolate   the same points have moved; two cuts violate a point
+--     SameMoved, TwoViolate   the same bytes are 0, so from one outset the same points have moved; two cuts violate a point
 --     same-label              so labels are the same
 --     same-moved              points that choose either way move, all of them, exactly if they do the other way
 --     same-byte               and a byte is the same, or two cuts violated its point at its turn
@@ -29,7 +29,7 @@ use Rattle.moving.proofs.Turns.{
 }
 use Rattle.moving.proofs.Taking.{Chooser}
 
--- the same points have moved
+-- the same bytes are 0
 pub record SameMoved (s t : List ℕ) : Type 0 where
   pub to : (p : ℕ) → getD s p 0 ≡ 0 → getD t p 0 ≡ 0
   pub back : (p : ℕ) → getD t p 0 ≡ 0 → getD s p 0 ≡ 0
@@ -81,7 +81,9 @@ module _ {m : Reading} {f g : List ℕ → ℕ → ℕ} (F : Chooser m f) (G : C
       elim (same-or (f s p) 0) [
         | inl n ↦ rw (turn-still g t p (same-none h p l n)) (h .to q (rw (turn-still f s p n) at z))
         | inr n ↦ elim (same-or q p) [
-          | inl e ↦ absurd (n (sym (getD-set-same s p (f s p) 0 (omega arith)) ∙ rw (turn-moves f s p n, e) at z))
+          | inl e ↦
+              let code = F .sound s p l n .1 .edge .code in
+              absurd (n (sym (getD-set-same s p (f s p) 0 (omega arith)) ∙ rw (turn-moves f s p code, e) at z))
           | inr k ↦
               let before : getD s q 0 ≡ 0 = sym (turn-other f s p q (λ e. absurd (k e))) ∙ z in
               turn-other g t p q (λ e. absurd (k e)) ∙ h .to q before

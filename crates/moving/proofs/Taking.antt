@@ -39,7 +39,7 @@ module _ {m : Reading} {pick : List ℕ → ℕ → ℕ} (sound : Sound m pick) 
     run-turn {t} p h r =
         elim (same-or (pick t p) 0) [
           | inl z ↦ rw (turn-still pick t p z) r
-          | inr n ↦ rw (turn-moves pick t p n) (move r (sound t p h n .1))
+          | inr n ↦ (let v = sound t p h n .1 in rw (turn-moves pick t p (v .edge .code)) (move r v))
         ]
 
     pub run-moveBy : {t : List ℕ} (order : List ℕ) → PointsOnly m order → Run m s t → Run m s (moveBy pick order t)
@@ -57,7 +57,7 @@ module _ {m : Reading} {pick : List ℕ → ℕ → ℕ} (sound : Sound m pick) 
       ]
     where
       at : (pick t p ≡ 0 → ⊥) → getD (turn pick t p) p 0 ≡ pick t p
-      at n = rw (turn-moves pick t p n) (getD-set-same t p (pick t p) 0 (omega (arith, long)))
+      at n = rw (turn-moves pick t p (sound t p h n .1 .edge .code)) (getD-set-same t p (pick t p) 0 (omega (arith, long)))
 
   pub moveBy-calm : (t : List ℕ) {p : ℕ} (order : List ℕ) → length t ≡ points (m .sizes) → PointsOnly m order
       → Complete m pick p → Member p order → Calm m (moveBy pick order t) p

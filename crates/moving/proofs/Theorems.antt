@@ -25,7 +25,7 @@ use Rattle.moving.proofs.SamePoints.{SameMoved, TwoViolate, same-moved,
 use Rattle.moving.proofs.Moved.{outset-long}
 
 module _ (m : Reading) where
-  -- the state table as it was before F-2
+  -- the state table by the choice before F-2, with F-8's mark
   unfoldable pub stateBefore : List ℕ
   stateBefore = moveBy (firstChoice m) (below (points (m .sizes))) (outset m)
 

@@ -1,20 +1,24 @@
 -- Turns along an order, whatever is chosen: what a turn writes, and what it leaves alone. Assumes nothing.
 use Prim.Native.Nat.{ℕ, zero, suc, _+_, _<_}
 use native.Mathlib.Omega.{arith}
-use mathlib.Core.Path.{_≡_, refl, _∙_, subst, ap}
-use mathlib.Core.Logic.{inl, inr}
+use mathlib.Core.Path.{_≡_, refl, sym, _∙_, subst, ap}
+use mathlib.Core.Bool.{Bool, true, false}
 use mathlib.Core.List.{List, [], _∷_, _++_}
 use lib.ListN.{length, getD, set, length-set}
-use lib.Dec.{eqb}
+use lib.Dec.{T}
 use lib.Seq.{getD-set-same, getD-set-other}
-use borrow.Author.Tests.{eq-eqb, ne-eqb}
 use Rattle.basics.specs.Choice.{if_then_else_}
 use Rattle.basics.specs.Lists.{from, below}
 use Rattle.basics.proofs.Test.{Member, here, there}
+use Rattle.lattice.specs.Direction.{Code}
+use Rattle.moving.specs.State.{isMove}
 use Rattle.moving.specs.Order.{moveTo, turn, moveBy}
-use Rattle.moving.proofs.Bytes.{same-or}
+use Rattle.moving.proofs.Bytes.{code-move, zero-rests}
 
-from-suc : (a n : ℕ) → from a (suc n) ≡ from a n ++ (a + n) ∷ []
+false-true : _≡_ {A = Bool} false true → ⊥
+false-true e = subst T (sym e) tt
+
+pub from-suc : (a n : ℕ) → from a (suc n) ≡ from a n ++ (a + n) ∷ []
 unfolding from
 from-suc a zero = ap (λ (k : ℕ). k ∷ []) (omega arith)
 from-suc a (suc n) =
@@ -23,38 +27,41 @@ from-suc a (suc n) =
 
 -- the entry of a point that chooses c
 abbrev pub entryOf : ℕ → ℕ → ℕ
-entryOf c before = if eqb c 0 then before else c
+entryOf c before = if isMove c then c else before
 
 module _ (pick : List ℕ → ℕ → ℕ) where
   module _ (t : List ℕ) (p : ℕ) where
     pub turn-still : pick t p ≡ 0 → turn pick t p ≡ t
     unfolding turn moveTo
-    turn-still z = simp (eq-eqb _ _ z)
+    turn-still z = simp (zero-rests _ z)
 
-    pub turn-moves : (pick t p ≡ 0 → ⊥) → turn pick t p ≡ set t p (pick t p)
+    pub turn-moves : Code (pick t p) → turn pick t p ≡ set t p (pick t p)
     unfolding turn moveTo
-    turn-moves n = simp (ne-eqb _ _ n)
+    turn-moves k = simp (code-move _ k)
 
     pub turn-entry : p < length t → getD (turn pick t p) p 0 ≡ entryOf (pick t p) (getD t p 0)
-    turn-entry h =
-        elim (same-or (pick t p) 0) [
-          | inl z ↦ rw (turn-still z, eq-eqb (pick t p) 0 z) refl
-          | inr n ↦ rw (turn-moves n, ne-eqb (pick t p) 0 n) (getD-set-same t p (pick t p) 0 h)
-        ]
+    unfolding turn moveTo
+    turn-entry h = go (isMove (pick t p))
+      where
+        go : (b : Bool) → getD (if b then set t p (pick t p) else t) p 0 ≡ (if b then pick t p else getD t p 0)
+        go true = getD-set-same t p (pick t p) 0 h
+        go false = refl
 
     pub turn-other : (q : ℕ) → (q ≡ p → pick t p ≡ 0) → getD (turn pick t p) q 0 ≡ getD t q 0
-    turn-other q h =
-        elim (same-or (pick t p) 0) [
-          | inl z ↦ rw (turn-still z) refl
-          | inr n ↦ rw (turn-moves n) (getD-set-other t p q (pick t p) 0 (λ e. n (h e)))
-        ]
+    unfolding turn moveTo
+    turn-other q h = go (isMove (pick t p)) refl
+      where
+        go : (b : Bool) → isMove (pick t p) ≡ b → getD (if b then set t p (pick t p) else t) q 0 ≡ getD t q 0
+        go true e = getD-set-other t p q (pick t p) 0 (λ z. false-true (sym (zero-rests (pick t p) (h z)) ∙ e))
+        go false e = refl
 
     pub turn-length : length (turn pick t p) ≡ length t
-    turn-length =
-        elim (same-or (pick t p) 0) [
-          | inl z ↦ rw (turn-still z) refl
-          | inr n ↦ rw (turn-moves n) (length-set t p (pick t p))
-        ]
+    unfolding turn moveTo
+    turn-length = go (isMove (pick t p))
+      where
+        go : (b : Bool) → length (if b then set t p (pick t p) else t) ≡ length t
+        go true = length-set t p (pick t p)
+        go false = refl
 
   -- a point that is not taken, or that never chooses, keeps its entry
   pub moveBy-other : (order t : List ℕ) (q : ℕ) → (Member q order → (u : List ℕ) → pick u q ≡ 0)

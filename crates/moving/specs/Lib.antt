@@ -1,5 +1,6 @@
 pub mod Label
 pub mod Violation
+pub mod State
 pub mod Nearest
 pub mod Reading
 pub mod Order

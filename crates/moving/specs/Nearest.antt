@@ -2,10 +2,11 @@
 -- is an argument.
 use Prim.Native.Nat.{ℕ, zero, suc}
 use mathlib.Core.Bool.{Bool, true, false}
-use lib.Dec.{eqb, ltb}
+use lib.Dec.{ltb}
 use Rattle.basics.specs.Choice.{if_then_else_}
 use Rattle.moving.specs.declared.Violation.{Violation}
 use Rattle.moving.specs.declared.Violation.the-variants.{No, Distance}
+use Rattle.moving.specs.State.{isMove}
 
 -- the one is nearer than the other; anything is nearer than none
 unfoldable pub nearer : Violation → Violation → Bool
@@ -14,9 +15,9 @@ nearer (Distance d) No = true
 nearer (Distance d) (Distance e) = ltb d e
 
 module _ (by : ℕ → Violation) where
-  -- the violation by a code, or none by 0
+  -- the violation by a code that is a move; none by any other
   abbrev pub byCode : ℕ → Violation
-  byCode c = if eqb c 0 then No else by c
+  byCode c = if isMove c then by c else No
 
   -- of the codes 1 to n the nearest that violates, or 0: a higher code is taken only if it is nearer than all lower ones
   unfoldable pub nearestTo : ℕ → ℕ

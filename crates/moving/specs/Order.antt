@@ -2,12 +2,12 @@
 use Prim.Native.Nat.{ℕ}
 use mathlib.Core.List.{List, [], _∷_}
 use lib.ListN.{set}
-use lib.Dec.{eqb}
 use Rattle.basics.specs.Choice.{if_then_else_}
+use Rattle.moving.specs.State.{isMove}
 
--- p's state byte becomes c, unless c is 0: a point that does not move keeps its byte
+-- p's state byte becomes c if this is a move: a point that does not move keeps its byte
 unfoldable pub moveTo : List ℕ → ℕ → ℕ → List ℕ
-moveTo codes p c = if eqb c 0 then codes else set codes p c
+moveTo codes p c = if isMove c then set codes p c else codes
 
 -- `pick codes p` is the code by which p moves when the state bytes are `codes`, or 0
 module _ (pick : List ℕ → ℕ → ℕ) where

@@ -1,6 +1,5 @@
 -- What moving reads, and the labels and violations at any time of it. Rules and orders are stated over this.
 --     Reading                       sizes, labels at the outset, cut bytes, a rule
---     isMove, saysZero              what a state byte says of its point
 --     labelAfter, live              labels while points move
 --     cutAlong                      the cut byte of an edge
 --     violationAlong, violationBy   how a live cut violates a point
@@ -8,7 +7,6 @@ use Prim.Native.Nat.{ℕ}
 use mathlib.Core.Bool.{Bool, not, _&&_}
 use mathlib.Core.List.{List}
 use lib.ListN.{getD}
-use lib.Dec.{eqb, leb}
 use Rattle.basics.specs.Choice.{if_then_else_}
 use Rattle.lattice.specs.declared.Sizes.{Sizes}
 use Rattle.lattice.specs.declared.Near.{Near}
@@ -20,6 +18,7 @@ use Rattle.moving.specs.declared.Violation.{Violation}
 use Rattle.moving.specs.declared.Violation.the-variants.{No}
 use Rattle.moving.specs.Label.{isZero}
 use Rattle.moving.specs.Violation.{Rule, violation}
+use Rattle.moving.specs.State.{saysZero}
 
 pub record Reading : Type 0 where
   pub sizes : Sizes
@@ -27,15 +26,8 @@ pub record Reading : Type 0 where
   pub cuts : List ℕ
   pub rule : Rule
 
--- a state byte that is a code, 1 to 14, says that its point moved
-unfoldable pub isMove : ℕ → Bool
-isMove c = leb 1 c && leb c 14
-
--- a state byte that is not 0 says that its point's label is zero
-abbrev pub saysZero : ℕ → Bool
-saysZero c = not (eqb c 0)
-
--- the label of a point when the state bytes are `codes`: "its label becomes zero" where it moved
+-- the label of a point when the state bytes are `codes`: zero where its byte says so, which it does where "its label becomes zero", it
+-- having moved, and where it is zero from the start
 unfoldable pub labelAfter : (ℕ → Label) → List ℕ → ℕ → Label
 labelAfter label codes p = if saysZero (getD codes p 0) then Zero else label p
 

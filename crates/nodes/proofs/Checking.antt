@@ -18,6 +18,7 @@ use Rattle.basics.proofs.Test.{true-T, false-F, lt-or}
 use Rattle.basics.proofs.Search.{lowest-is, none-lowest}
 use Rattle.lattice.specs.declared.Sizes.{Sizes}
 use Rattle.lattice.specs.Counts.{points}
+use Rattle.moving.specs.State.{noMove}
 use Rattle.filling.specs.declared.Placed.{Placed}
 use Rattle.filling.specs.Located.{believable, idFault, locate}
 use Rattle.bitmap.specs.inner.Bits.{bit, marked}
@@ -32,9 +33,10 @@ module _ {s : Sizes} {cuts state : List ℕ} where
   whole : Stored s cuts state → Whole s cuts state []
   whole h = record { sized = h .sized; cuts-long = h .cuts-long; state-long = h .state-long; rows-whole = refl }
 
-  pub at-rest : Stored s cuts state → (id : ℕ) → id < length state → getD state id 0 ≡ 0 → true ≡ eqb (idFault s cuts state id) 0
+  pub at-rest : Stored s cuts state → (id : ℕ) → id < length state → noMove (getD state id 0) ≡ true
+      → true ≡ eqb (idFault s cuts state id) 0
   unfolding idFault believable
-  at-rest h id l e = sym (rw (lt-ltb id (points s) (omega (arith, h .state-long)), eq-eqb _ _ e) refl)
+  at-rest h id l e = sym (rw (lt-ltb id (points s) (omega (arith, h .state-long)), e) refl)
 
   pub number-of : Stored s cuts state → (id : ℕ) (p : Placed) → p ≡ locate s cuts state id
       → eqb (p .number) 0 ≡ eqb (idFault s cuts state id) 0

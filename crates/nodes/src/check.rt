@@ -1,4 +1,5 @@
 // Whether ids have places.
+use ground::codes;
 use lattice::Sizes;
 use places::locate;
 ghost use mathlib.Core.Path.{_≡_};
@@ -17,7 +18,7 @@ fn is_placed(s: Sizes, cuts: &[u8], state: &[u8], id: usize) -> bool
     ensures { λ r. ⌜ r ≡ eqb (idFault s (now (cuts .entry)) (now (state .entry)) id) 0 ⌝ }
 {
     if id < state.len() {
-        if state[id] == 0 {
+        if codes::no_move(state[id] as usize) {
             return true;
         }
     }

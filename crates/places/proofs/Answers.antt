@@ -18,8 +18,8 @@ use Rattle.lattice.specs.Point.{doubled, kindOf, indexOf}
 use Rattle.lattice.specs.Direction.{Code, asStart, isStart, direction, step}
 use Rattle.lattice.specs.Edge.{neighbour, byteAt, edgeByte}
 use Rattle.moving.specs.Violation.{rule1, measured, violates}
-use Rattle.moving.specs.Reading.{isMove}
-use Rattle.moving.proofs.Bytes.{code-move, zero-rests}
+use Rattle.moving.specs.State.{isMove, noMove, saysZero}
+use Rattle.moving.proofs.Bytes.{code-move, code-some, none-rests}
 use Rattle.geometry.specs.Place.{latticePlace, rest, cutPlace, movedPlace, pointPlace, placeOf}
 use Rattle.geometry.proofs.InBlock.{edge-in}
 use Rattle.filling.specs.Located.{placed, unplaced, reaches, believable, standsTo, stands, idFault, locate}
@@ -79,17 +79,18 @@ module _ (s : Sizes) (cuts : List ℕ) (p c : ℕ) where
 
 -- a point
 module _ (s : Sizes) (cuts state : List ℕ) (p : ℕ) where
-  pub point-rests : getD state p 0 ≡ 0 → (r : Place) → placeAt r ≡ rest s p → placed (placeAt r) ≡ pointAnswer s cuts state p
+  pub point-rests : noMove (getD state p 0) ≡ true → (r : Place) → placeAt r ≡ rest s p → placed (placeAt r) ≡ pointAnswer s cuts state p
   unfolding pointAnswer believable pointPlace
-  point-rests z r is = rw (eq-eqb _ _ z, zero-rests _ z) (ap placed is)
+  point-rests n r is = rw (n, none-rests (getD state p 0) n) (ap placed is)
 
-  pub point-strange : 14 < getD state p 0 → unplaced 9 ≡ pointAnswer s cuts state p
-  unfolding pointAnswer believable isMove
-  point-strange l = rw (ne-eqb (getD state p 0) 0 (λ z. omega arith), lt-leb _ _ l, le-leb 1 (getD state p 0) (omega arith)) refl
+  -- neither a move nor none
+  pub point-strange : noMove (getD state p 0) ≡ false → isMove (getD state p 0) ≡ false → unplaced 9 ≡ pointAnswer s cuts state p
+  unfolding pointAnswer believable
+  point-strange n m = rw (n, m) refl
 
   pub point-moved : (c : ℕ) → c ≡ getD state p 0 → Code c → movedAnswer s cuts p c (neighbour s p c) ≡ pointAnswer s cuts state p
   unfolding pointAnswer believable pointPlace movedAnswer reaches
-  point-moved c e k = rw (sym e, ne-eqb c 0 (λ z. omega (arith, k .low)), code-move c k) (go (neighbour s p c))
+  point-moved c e k = rw (sym e, code-some c k, code-move c k) (go (neighbour s p c))
     where
       go : (n : Near) → movedAnswer s cuts p c n ≡ (if reaches s cuts state p c n then placed (movedPlace s cuts p c n) else unplaced 9)
       go Nothing = refl
@@ -118,27 +119,27 @@ module _ (s : Sizes) (cuts state : List ℕ) (o : ℕ) where
       go Nothing = refl
       go (At q) = rw (own, eq-eqb _ _ z) refl
 
-  pub cut-moved : (getD state (o / 7) 0 ≡ 0 → ⊥) → unplaced 8 ≡ cutAnswer s cuts state o
+  pub cut-starts : saysZero (getD state (o / 7) 0) ≡ true → unplaced 8 ≡ cutAnswer s cuts state o
   unfolding cutAnswer stands standsTo
-  cut-moved n = go end (eqb (getD cuts (byteAt (o / 7) (o % 7)) 0) 0) refl
+  cut-starts n = go end (eqb (getD cuts (byteAt (o / 7) (o % 7)) 0) 0) refl
     where
       go : (n : Near) (z : Bool) → eqb (getD cuts (byteAt (o / 7) (o % 7)) 0) 0 ≡ z
           → unplaced 8 ≡ (if standsTo s cuts state (o / 7) (o % 7) n then placed (cutPlace s cuts (o / 7) (o % 7)) else unplaced 8)
       go Nothing z e = refl
       go (At q) true e = rw e refl
-      go (At q) false e = rw (e, ne-eqb _ _ n) refl
+      go (At q) false e = rw (e, n) refl
 
-  module _ (q : ℕ) (e : end ≡ At q) (b : getD cuts o 0 ≡ 0 → ⊥) (n : getD state (o / 7) 0 ≡ 0) where
-    pub cut-ends : (getD state q 0 ≡ 0 → ⊥) → unplaced 8 ≡ cutAnswer s cuts state o
+  module _ (q : ℕ) (e : end ≡ At q) (b : getD cuts o 0 ≡ 0 → ⊥) (n : saysZero (getD state (o / 7) 0) ≡ false) where
+    pub cut-ends : saysZero (getD state q 0) ≡ true → unplaced 8 ≡ cutAnswer s cuts state o
     unfolding cutAnswer stands standsTo
-    cut-ends m = rw (e, own, ne-eqb _ _ b, eq-eqb _ _ n, ne-eqb _ _ m) refl
+    cut-ends m = rw (e, own, ne-eqb _ _ b, n, m) refl
 
-    pub cut-answer : getD state q 0 ≡ 0 → (r : Place) → placeAt r ≡ along (rest s (o / 7)) (direction (o % 7)) (getD cuts o 0)
+    pub cut-answer : saysZero (getD state q 0) ≡ false → (r : Place) → placeAt r ≡ along (rest s (o / 7)) (direction (o % 7)) (getD cuts o 0)
         → placed (placeAt r) ≡ cutAnswer s cuts state o
     unfolding cutAnswer stands standsTo
     cut-answer m r is =
         let by-own = ap (λ (i : ℕ). along (rest s (o / 7)) (direction (o % 7)) (getD cuts i 0)) own in
-        rw (e, own, ne-eqb _ _ b, eq-eqb _ _ n, eq-eqb _ _ m)
+        rw (e, own, ne-eqb _ _ b, n, m)
         (ap placed (is ∙ sym (cut-along s cuts (o / 7) (o % 7) ∙ by-own)))
 
 -- the call

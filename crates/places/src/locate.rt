@@ -2,6 +2,7 @@
 use crate::points;
 use filling::Placed;
 use ground::Place;
+use ground::codes;
 use ground::violation;
 use lattice::Near;
 use lattice::Sizes;
@@ -42,7 +43,7 @@ fn refused(number: u32) -> Placed
     }
 }
 
-// A point whose state byte is a code: the code must name an edge whose cut violates the point.
+// A point whose state byte is a move: the code must name an edge whose cut violates the point.
 fn moved_point(s: Sizes, cuts: &[u8], p: usize, code: usize) -> Placed
     requires { ⌜ Sized s ⌝ }
     requires { ⌜ length (now cuts) ≡ 7 * points s ⌝ }
@@ -66,7 +67,7 @@ fn moved_point(s: Sizes, cuts: &[u8], p: usize, code: usize) -> Placed
     }
 }
 
-// A lattice point: at rest, or where its state byte says.
+// A lattice point: at rest, with or without the mark, or where its state byte says.
 fn locate_point(s: Sizes, cuts: &[u8], state: &[u8], p: usize) -> Placed
     requires { ⌜ Sized s ⌝ }
     requires { ⌜ length (now cuts) ≡ 7 * points s ⌝ }
@@ -75,18 +76,19 @@ fn locate_point(s: Sizes, cuts: &[u8], state: &[u8], p: usize) -> Placed
     ensures { λ r. ⌜ r ≡ pointAnswer s (now (cuts .entry)) (now (state .entry)) p ⌝ }
 {
     let code = state[p] as usize;
-    if code == 0 {
+    if codes::no_move(code) {
         let q = numbers::locate(s, p);
         let kind = q.kind;
         return answered(points::rest_place(kind, q.x, q.y, q.z));
     }
-    if code <= 14 {
+    if codes::is_move(code) {
         return moved_point(s, cuts, p, code);
     }
     refused(9)
 }
 
-// The cut of the byte at offset o: its edge exists, and neither end has moved.
+// The cut of the byte at offset o: its edge exists, and neither end's byte says that its label is
+// zero.
 fn locate_cut(s: Sizes, cuts: &[u8], state: &[u8], o: usize) -> Placed
     requires { ⌜ Sized s ⌝ }
     requires { ⌜ length (now cuts) ≡ 7 * points s ⌝ }
@@ -100,14 +102,14 @@ fn locate_cut(s: Sizes, cuts: &[u8], state: &[u8], o: usize) -> Placed
     if t == 0 {
         return refused(8);
     }
-    if state[p] != 0 {
+    if codes::says_zero(state[p]) {
         return refused(8);
     }
     let q = numbers::locate(s, p);
     let far = edges::neighbour(s, q, d + 1);
     match far {
         Near::At(n) => {
-            if state[n] == 0 {
+            if !codes::says_zero(state[n]) {
                 let kind = q.kind;
                 let start = points::rest_place(kind, q.x, q.y, q.z);
                 return answered(points::cut_place(start, d, t));

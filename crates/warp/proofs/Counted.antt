@@ -12,10 +12,11 @@ use Rattle.basics.specs.Lists.{count}
 use Rattle.basics.proofs.Test.{lt-or}
 use Rattle.basics.proofs.Search.{count-same, count-le, count-none}
 use Rattle.lattice.specs.Direction.{Code}
-use Rattle.moving.specs.Reading.{Reading, isMove}
+use Rattle.moving.specs.State.{isMove}
+use Rattle.moving.specs.Reading.{Reading}
 use Rattle.moving.specs.Moving.{outset}
-use Rattle.moving.proofs.Bytes.{code-move, zero-rests}
-use Rattle.moving.proofs.Moved.{outset-at}
+use Rattle.moving.proofs.Bytes.{code-move}
+use Rattle.moving.proofs.Moved.{outset-long, outset-none}
 use Rattle.filling.specs.Fill.{movedCount}
 
 -- two tests that differ at one number only, which one of them passes
@@ -33,12 +34,12 @@ one-more f g (suc n) p h e a b =
     ]
 
 -- a point that moves
-pub counted-move : (t : List ℕ) (p c : ℕ) → p < length t → getD t p 0 ≡ 0 → Code c → movedCount (set t p c) ≡ movedCount t + 1
+pub counted-move : (t : List ℕ) (p c : ℕ) → p < length t → isMove (getD t p 0) ≡ false → Code c → movedCount (set t p c) ≡ movedCount t + 1
 unfolding movedCount
 counted-move t p c h z k =
     rw (length-set t p c)
     (one-more (λ j. isMove (getD t j 0)) (λ j. isMove (getD (set t p c) j 0)) (length t) p h
-    (λ j n. ap isMove (getD-set-other t p j c 0 n)) (zero-rests _ z) (ap isMove (getD-set-same t p c 0 h) ∙ code-move c k))
+    (λ j n. ap isMove (getD-set-other t p j c 0 n)) z (ap isMove (getD-set-same t p c 0 h) ∙ code-move c k))
 
 pub counted-few : (t : List ℕ) → movedCount t ≤ length t
 unfolding movedCount
@@ -46,4 +47,5 @@ counted-few t = count-le (λ j. isMove (getD t j 0)) (length t)
 
 pub counted-none : (m : Reading) → movedCount (outset m) ≡ 0
 unfolding movedCount
-counted-none m = count-none (λ j. isMove (getD (outset m) j 0)) (length (outset m)) (λ j l. zero-rests _ (outset-at m j))
+counted-none m =
+    count-none (λ j. isMove (getD (outset m) j 0)) (length (outset m)) (λ j l. outset-none m j (omega (arith, outset-long m)))

@@ -11,7 +11,7 @@ use Rattle.lattice.specs.declared.Sizes.{Sizes}
 use Rattle.lattice.specs.declared.Near.the-variants.{At}
 use Rattle.lattice.specs.declared.Site.{Site}
 use Rattle.lattice.specs.Axis.{along-x}
-use Rattle.lattice.specs.Counts.{Sized, grid}
+use Rattle.lattice.specs.Counts.{Sized, grid, points}
 use Rattle.lattice.specs.Direction.{Code, asEnd}
 use Rattle.lattice.specs.Edge.{near, neighbour, edgeByte}
 use Rattle.lattice.specs.inner.Site.{Sited, index}
@@ -19,7 +19,8 @@ use Rattle.lattice.proofs.Sites.{by-direction}
 use Rattle.moving.specs.Violation.{rule1, violation}
 use Rattle.moving.specs.Nearest.{nearest}
 use Rattle.moving.specs.Reading.{Reading, cutAlong, violationBy}
-use Rattle.moving.specs.Moving.{choice}
+use Rattle.moving.specs.Moving.{choice, outset}
+use Rattle.moving.proofs.Settled.{Reached}
 use Rattle.moving.proofs.Nearest.{nearest-none}
 use Rattle.ground.specs.inner.Blank.{Blank}
 use Rattle.ground.specs.inner.Lines.{Line, lineAt}
@@ -36,7 +37,7 @@ use Rattle.warp.proofs.Searching.{Stands, guess-none, guess-stands, not
 pub bare-stays : (m : Reading) (codes : List ℕ) (p : ℕ) → Bare (m .sizes) (m .cuts) p → choice m codes p ≡ 0
 unfolding violation
 bare-stays m codes p b =
-    guess-none m codes p (λ c. 0) (λ c k q e. sym (b .none c k q e)) (nearest-none (λ c. violation (m .rule) c 0) 14 (λ c l u. refl))
+    guess-none m codes p (λ c. 0) (λ c k q e. sym (b .none c k q e)) (nearest-none (λ c. violation (m .rule) c 0) 14 (omega arith) (λ c l u. refl))
 
 -- no point has a cut, where all bytes of the table are zero
 pub bare-table : (s : Sizes) (cuts : List ℕ) (p : ℕ) → Blank cuts 0 (length cuts) → Bare s cuts p
@@ -142,14 +143,14 @@ offset-byte m q at {c = c} i h g o k is e near =
     ∙ ap (λ (n : ℕ). cutAlong m n c e) i
 
 -- the nearest by the bytes, if there is none or its cut is live
-pub guess-at : (m : Reading) (codes : List ℕ) (q : Site) (at : List ℕ) {p c : ℕ} → m .rule ≡ rule1 → q .own ≡ p
-    → Sized (m .sizes) → Sited (m .sizes) q → Offsets (m .sizes) q at → c ≡ nearest (byByte (m .cuts) at)
-    → deadAlong (m .label) codes (q .own) c (neighbour (m .sizes) (q .own) c) ≡ false → c ≡ nearest (violationBy m codes p)
+pub guess-at : (m : Reading) {codes : List ℕ} → Reached m (outset m) codes → (q : Site) (at : List ℕ) {p c : ℕ} → m .rule ≡ rule1
+    → q .own ≡ p → p < points (m .sizes) → Sized (m .sizes) → Sited (m .sizes) q → Offsets (m .sizes) q at → c ≡ nearest (byByte (m .cuts) at)
+    → deadAlong codes (q .own) c (neighbour (m .sizes) (q .own) c) ≡ false → c ≡ nearest (violationBy m codes p)
 unfolding byByte
-guess-at m codes q at {p} {c} rule i h g o e l =
+guess-at m {codes} r q at {p} {c} rule i inside h g o e l =
     guess-stands m codes p byte (λ k code. offset-byte m q at i h g o code refl)
     (e ∙ (λ j. nearest (λ k. violation (sym rule j) k (byte k))))
-    (elim (not-dead (m .label) codes (q .own) c _ l) [ inl z ↦ inl z | inr a ↦ inr (live-at m codes c i a) ])
+    (elim (not-dead codes (q .own) c _ l) [ inl z ↦ inl z | inr a ↦ inr (live-at m r c (a .0) i inside (a .1)) ])
   where
     byte : ℕ → ℕ
     byte k = getD (m .cuts) (getD at (k - 1) 0) 0

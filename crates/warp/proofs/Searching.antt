@@ -3,30 +3,33 @@
 --     by-byte                            a cut that is live violates as its byte does, any other not at all; so by-far, when-dead
 --     guess-none, guess-stands           so if nothing violates by the bytes nothing does, and the nearest by the bytes is the nearest if it is live
 --     byte-of, Stands, not-dead, live-at what the code asks, in the definitions' terms
-use Prim.Native.Nat.{ℕ, suc, _+_, _-_, _≤_}
+use Prim.Native.Nat.{ℕ, suc, _+_, _-_, _≤_, _<_}
 use native.Mathlib.Omega.{arith}
 use mathlib.Core.Path.{_≡_, refl, sym, ap, subst, _∙_}
 use mathlib.Core.Logic.{_⊎_, inl, inr}
 use mathlib.Core.Bool.{Bool, true, false, not}
 use mathlib.Core.List.{List}
 use lib.ListN.{getD}
-use lib.Dec.{eqb}
-use borrow.Author.Tests.{eqb-true, ne-eqb}
+use lib.Dec.{T}
 use Rattle.basics.specs.Choice.{if_then_else_}
 use Rattle.basics.proofs.Test.{lt-or}
 use Rattle.lattice.specs.declared.Near.{Near}
 use Rattle.lattice.specs.declared.Near.the-variants.{At, Nothing}
+use Rattle.lattice.specs.Counts.{points}
 use Rattle.lattice.specs.Direction.{Code}
 use Rattle.lattice.specs.Edge.{neighbour}
-use Rattle.moving.specs.declared.Label.{Label}
 use Rattle.moving.specs.declared.Violation.{Violation}
 use Rattle.moving.specs.declared.Violation.the-variants.{No}
 use Rattle.moving.specs.Violation.{rule1, violation}
+use Rattle.moving.specs.State.{isMove}
 use Rattle.moving.specs.Nearest.{nearer, byCode, nearestTo, nearest}
 use Rattle.moving.specs.Reading.{Reading, cutAlong, violationAlong, violationBy}
-use Rattle.moving.specs.Moving.{choice}
+use Rattle.moving.specs.Moving.{choice, outset}
+use Rattle.moving.proofs.Settled.{Reached}
+use Rattle.moving.proofs.Bytes.{code-move, move-code}
 use Rattle.moving.proofs.Nearest.{nearest-le, fewer-none, fewer-same}
-use Rattle.warp.specs.inner.Quick.{liveAlong, deadAlong, byByte}
+use Rattle.warp.specs.inner.Quick.{liveAlong, openAlong, deadAlong, byByte}
+use Rattle.warp.proofs.Live.{open-live}
 
 -- the search has come to a code: of those before it, `found` is the nearest, and `best` says how near it is, if any are left
 pub record Searching (by : ℕ → Violation) (found : ℕ) (best : Violation) (c : ℕ) : Type 0 where
@@ -36,7 +39,7 @@ pub record Searching (by : ℕ → Violation) (found : ℕ) (best : Violation) (
   pub how : c ≤ 14 → best ≡ byCode by found
 
 pub search-starts : {by : ℕ → Violation} {found c : ℕ} → found ≡ 0 → c ≡ 1 → Searching by found No c
-unfolding nearestTo
+unfolding nearestTo isMove
 search-starts e f =
     rw (e, f) (record { low = omega arith; high = omega arith; is = refl; how = λ l. refl })
 
@@ -59,7 +62,7 @@ module _ {by : ℕ → Violation} {found : ℕ} {best : Violation} {c : ℕ} (i 
         low = omega arith;
         high = omega arith;
         is = f ∙ sym (step l ∙ rw (← e, n) refl);
-        how = λ u. g ∙ e ∙ rw (f, ne-eqb c 0 (λ z. omega (arith, i .low))) refl;
+        how = λ u. g ∙ e ∙ rw (f, code-move c (record { low = i .low; high = l })) refl;
       }
 
   pub search-keeps : {found' : ℕ} {best' : Violation} → c ≤ 14 → nearer (by c) best ≡ false → found' ≡ found → best' ≡ best
@@ -73,7 +76,7 @@ module _ {by : ℕ → Violation} {found : ℕ} {best : Violation} {c : ℕ} (i 
       }
 
   pub search-few : found ≤ 14
-  search-few = omega (arith, i .is, nearest-le by (c - 1), i .high)
+  search-few = omega (arith, i .is, nearest-le by (c - 1) (omega (arith, i .high)), i .high)
 
   pub search-ends : 15 ≤ c → found ≡ nearest by
   search-ends l = let e : c - 1 ≡ 14 = omega (arith, i .high) in rw e at (i .is)
@@ -131,33 +134,34 @@ module _ (m : Reading) (codes : List ℕ) (p : ℕ) where
 
     pub guess-none : nearest guessed ≡ 0 → choice m codes p ≡ 0
     unfolding choice
-    guess-none z = fewer-none guessed (violationBy m codes p) 14 fewer z
+    guess-none z = fewer-none guessed (violationBy m codes p) 14 (omega arith) fewer z
 
-    pub guess-stands : {c : ℕ} → c ≡ nearest guessed → (c ≡ 0) ⊎ (lives c ≡ true) → c ≡ nearest (violationBy m codes p)
+    pub guess-stands : {c : ℕ} → c ≡ nearest guessed → (isMove c ≡ false) ⊎ (lives c ≡ true) → c ≡ nearest (violationBy m codes p)
     guess-stands {c} e h =
         elim (lt-or 0 c) [
           | inl u ↦
-              let code : Code c = record { low = u; high = omega (arith, e, nearest-le guessed 14) } in
-              let alive : lives c ≡ true = elim h [ inl z ↦ absurd (omega arith) | inr l ↦ l ] in
-              e ∙ sym (fewer-same guessed (violationBy m codes p) 14 fewer (rw e at (by-byte c (bytes c code) true alive)))
+              let code : Code c = record { low = u; high = omega (arith, e, nearest-le guessed 14 (omega arith)) } in
+              let alive : lives c ≡ true = elim h [ inl z ↦ absurd (subst T (sym (code-move c code) ∙ z) tt) | inr l ↦ l ] in
+              e ∙ sym (fewer-same guessed (violationBy m codes p) 14 (omega arith) fewer (rw e at (by-byte c (bytes c code) true alive)))
           | inr u ↦
               let z : c ≡ 0 = omega arith in
-              z ∙ sym (fewer-none guessed (violationBy m codes p) 14 fewer (sym e ∙ z))
+              z ∙ sym (fewer-none guessed (violationBy m codes p) 14 (omega arith) fewer (sym e ∙ z))
         ]
 
--- there is no code, or its cut is live
-pub not-dead : (label : ℕ → Label) (codes : List ℕ) (p c : ℕ) (n : Near) → deadAlong label codes p c n ≡ false
-    → (c ≡ 0) ⊎ (liveAlong label codes p n ≡ true)
+-- the code is no move, or its cut is live
+pub not-dead : (codes : List ℕ) (p c : ℕ) (n : Near) → deadAlong codes p c n ≡ false
+    → (isMove c ≡ false) ⊎ (Code c × (openAlong codes p n ≡ true))
 unfolding deadAlong
-not-dead label codes p c n e = go (eqb c 0) refl (liveAlong label codes p n) refl e
+not-dead codes p c n e = go (isMove c) refl (openAlong codes p n) refl e
   where
-    go : (z : Bool) → eqb c 0 ≡ z → (b : Bool) → liveAlong label codes p n ≡ b → (if z then false else not b) ≡ false
-        → (c ≡ 0) ⊎ (liveAlong label codes p n ≡ true)
-    go true z b l e = inl (eqb-true c 0 z)
-    go false z true l e = inr l
-    go false z false l e = inr (l ∙ sym e)
+    go : (z : Bool) → isMove c ≡ z → (b : Bool) → openAlong codes p n ≡ b → (if z then not b else false) ≡ false
+        → (isMove c ≡ false) ⊎ (Code c × (openAlong codes p n ≡ true))
+    go false z b l e = inl z
+    go true z true l e = inr (move-code c z, l)
+    go true z false l e = inr (move-code c z, l ∙ sym e)
 
 -- what the code asks of the cut by a code at a site with the number p
-pub live-at : (m : Reading) (codes : List ℕ) (c : ℕ) {own p : ℕ} {b : Bool} → own ≡ p
-    → liveAlong (m .label) codes own (neighbour (m .sizes) own c) ≡ b → liveAlong (m .label) codes p (neighbour (m .sizes) p c) ≡ b
-live-at m codes c {b = b} i = subst (λ (n : ℕ). liveAlong (m .label) codes n (neighbour (m .sizes) n c) ≡ b) i
+pub live-at : (m : Reading) {codes : List ℕ} → Reached m (outset m) codes → (c : ℕ) → Code c → {own p : ℕ} {b : Bool} → own ≡ p
+    → p < points (m .sizes) → openAlong codes own (neighbour (m .sizes) own c) ≡ b → liveAlong (m .label) codes p (neighbour (m .sizes) p c) ≡ b
+live-at m {codes} r c k {p = p} {b = b} i h e =
+    sym (open-live m r p h c k) ∙ subst (λ (n : ℕ). openAlong codes n (neighbour (m .sizes) n c) ≡ b) i e

@@ -3,37 +3,67 @@ use Prim.Native.Nat.{ℕ, zero, suc, _+_, _≤_, _<_}
 use native.Mathlib.Numerals.{add-one}
 use native.Mathlib.Omega.{arith}
 use mathlib.Core.Path.{_≡_, sym, ap, subst, _∙_}
-use mathlib.Core.List.{List, [], _∷_, _++_}
-use lib.ListN.{length, getD, set, take, replicate, replicate-append-replicate}
+use mathlib.Core.Logic.{inl, inr}
+use mathlib.Core.Bool.{true, false}
+use mathlib.Core.List.{List, [], _∷_, _++_, map, map-append}
+use lib.Dec.{T}
+use lib.ListN.{length, getD, set, take, length-map}
 use lib.Seq.{take-all, take-suc-set}
-use Rattle.basics.specs.Lists.{from}
+use Rattle.basics.specs.Lists.{from, below}
 use Rattle.lattice.specs.declared.Site.{Site}
 use Rattle.lattice.specs.Axis.{along-x}
+use Rattle.basics.proofs.Test.{lt-or}
+use Rattle.basics.proofs.Mapped.{from-length}
 use Rattle.lattice.specs.Counts.{Sized, grid, points}
+use Rattle.lattice.specs.Direction.{Code}
+use Rattle.moving.specs.declared.Label.{Label}
+use Rattle.moving.specs.State.{isMove}
 use Rattle.moving.specs.Reading.{Reading}
 use Rattle.moving.specs.Order.{moveBy}
-use Rattle.moving.specs.Moving.{choice, outset, stateAt, stateOf}
-use Rattle.moving.proofs.Turns.{turn-still, turn-moves}
-use Rattle.moving.proofs.Moved.{outset-at, stateAt-long, stateAt-suc, stateAt-ahead}
-use Rattle.moving.proofs.Choice.{choice-sound}
+use Rattle.moving.specs.Moving.{markOf, choice, outset, stateAt, stateOf}
+use Rattle.moving.proofs.Settled.{Reached}
+use Rattle.moving.proofs.Bytes.{code-move, move-code}
+use Rattle.moving.proofs.Turns.{from-suc, turn-still, turn-moves}
+use Rattle.moving.proofs.Moved.{outset-none, stateAt-long, stateAt-suc, stateAt-ahead, stateAt-reached}
 use Rattle.filling.specs.Fill.{movedCount}
 use Rattle.ground.specs.inner.Blank.{Blank}
 use Rattle.ground.specs.inner.Lines.{Line}
 use Rattle.ground.proofs.Lines.{line-own, line-fits}
-use Rattle.warp.specs.inner.Quick.{Bare}
+use Rattle.warp.specs.inner.Quick.{Bare, outsetOf}
 use Rattle.warp.proofs.Counted.{counted-move, counted-few, counted-none}
 use Rattle.warp.proofs.Quiet.{bare-stays, bare-table}
 
--- one zero more
-pub zeros-more : (t : List ℕ) (p : ℕ) → p < length t → take p t ≡ replicate p 0 → take (p + 1) (set t p 0) ≡ replicate (p + 1) 0
-zeros-more t p h e =
-    ap (λ (k : ℕ). take k (set t p 0)) (add-one p)
-    ∙ take-suc-set t p 0 h
-    ∙ ap (λ (l : List ℕ). l ++ 0 ∷ []) e
-    ∙ replicate-append-replicate p 1 0
+-- one byte of the outset more
+pub marked-more : (label : ℕ → Label) (t : List ℕ) (p b : ℕ) → p < length t → take p t ≡ outsetOf label p → b ≡ markOf (label p)
+    → take (p + 1) (set t p b) ≡ outsetOf label (p + 1)
+unfolding outsetOf
+marked-more label t p b h e f =
+    ap (λ (k : ℕ). take k (set t p b)) (add-one p)
+    ∙ take-suc-set t p b h
+    ∙ (λ i. e i ++ f i ∷ [])
+    ∙ sym
+    (ap (λ (k : ℕ). map byte (below k)) (add-one p)
+    ∙ ap (map byte) (from-suc 0 p)
+    ∙ map-append byte (below p) ((0 + p) ∷ [])
+    ∙ ap (λ (k : ℕ). map byte (below p) ++ byte k ∷ []) (omega arith))
+  where
+    byte : ℕ → ℕ
+    byte q = markOf (label q)
 
-pub zeros-all : (t : List ℕ) (p n : ℕ) → p ≡ n → length t ≡ n → take p t ≡ replicate p 0 → t ≡ replicate n 0
-zeros-all t p n e l z = sym (take-all p t (omega arith)) ∙ z ∙ ap (λ (k : ℕ). replicate k 0) e
+pub marked-long : (label : ℕ → Label) (n : ℕ) → length (outsetOf label n) ≡ n
+unfolding outsetOf
+marked-long label n = length-map (below n) (λ p. markOf (label p)) ∙ from-length 0 n
+
+pub marked-all : (label : ℕ → Label) (t : List ℕ) (p n : ℕ) → p ≡ n → length t ≡ n → take p t ≡ outsetOf label p → t ≡ outsetOf label n
+marked-all label t p n e l z = sym (take-all p t (omega arith)) ∙ z ∙ ap (outsetOf label) e
+
+-- of the codes and 0 only 0 is no move
+rests-zero : (c : ℕ) → c ≤ 14 → isMove c ≡ false → c ≡ 0
+rests-zero c few n =
+    elim (lt-or 0 c) [
+      | inl l ↦ absurd (subst T (sym (code-move c (record { low = l; high = few })) ∙ n) tt)
+      | inr l ↦ omega arith
+    ]
 
 module _ (m : Reading) where
   -- a point that chooses nothing
@@ -41,9 +71,9 @@ module _ (m : Reading) where
   rests p z = rw (add-one p) (stateAt-suc m p ∙ turn-still (choice m) (stateAt m p) p z)
 
   -- a point that chooses a code
-  moves : (p : ℕ) → (choice m (stateAt m p) p ≡ 0 → ⊥)
+  moves : (p : ℕ) → Code (choice m (stateAt m p) p)
       → stateAt m (p + 1) ≡ set (stateAt m p) p (choice m (stateAt m p) p)
-  moves p n = rw (add-one p) (stateAt-suc m p ∙ turn-moves (choice m) (stateAt m p) p n)
+  moves p k = rw (add-one p) (stateAt-suc m p ∙ turn-moves (choice m) (stateAt m p) p k)
 
   -- so many points without a cut from p on leave the table as it is
   pub bare-passed : (p n : ℕ) → ((x : ℕ) → x < n → Bare (m .sizes) (m .cuts) (p + x)) → stateAt m (p + n) ≡ stateAt m p
@@ -81,16 +111,20 @@ module _ (m : Reading) where
     next : own + x + 1 ≡ own + (x + 1)
     next = omega arith
 
-    pub walked-rests : {more c : ℕ} {after : List ℕ} → choice m state p ≡ c → c ≡ 0 → after ≡ state → more ≡ moved
+    pub walked-reached : own + len ≤ points (m .sizes) → Reached m (outset m) state
+    walked-reached l = subst (Reached m (outset m)) (sym (w .is)) (stateAt-reached m p (omega arith))
+
+    pub walked-rests : {more c : ℕ} {after : List ℕ} → choice m state p ≡ c → c ≤ 14 → isMove c ≡ false → after ≡ state → more ≡ moved
         → Walked own len before after more (x + 1)
-    walked-rests {more} e z f g =
+    walked-rests {more} {c} e few n f g =
+        let z = rests-zero c few n in
         record {
           high = omega arith;
           is = f ∙ w .is ∙ sym (rests p (sym here ∙ e ∙ z)) ∙ ap (stateAt m) next;
           counted = ap (λ (k : ℕ). k + movedCount before) g ∙ w .counted ∙ ap movedCount (sym f);
         }
 
-    pub walked-moves : {more c : ℕ} {after : List ℕ} → own + len ≤ points (m .sizes) → choice m state p ≡ c → (c ≡ 0 → ⊥)
+    pub walked-moves : {more c : ℕ} {after : List ℕ} → own + len ≤ points (m .sizes) → choice m state p ≡ c → isMove c ≡ true
         → after ≡ set state p c → more ≡ moved + 1 → Walked own len before after more (x + 1)
     walked-moves {more} {c} {after} l e n f g =
         record { high = omega arith; is = after-is; counted = omega (arith, w .counted, one, ap movedCount f) }
@@ -98,17 +132,20 @@ module _ (m : Reading) where
         chosen : choice m (stateAt m p) p ≡ c
         chosen = sym here ∙ e
 
-        some : choice m (stateAt m p) p ≡ 0 → ⊥
-        some z = n (sym chosen ∙ z)
+        code : Code c
+        code = move-code c n
 
         after-is : after ≡ stateAt m (own + (x + 1))
-        after-is = f ∙ (λ i. set (w .is i) p (sym chosen i)) ∙ sym (moves p some) ∙ ap (stateAt m) next
+        after-is = f ∙ (λ i. set (w .is i) p (sym chosen i)) ∙ sym (moves p (subst Code (sym chosen) code)) ∙ ap (stateAt m) next
 
-        ahead : getD state p 0 ≡ 0
-        ahead = ap (λ (t : List ℕ). getD t p 0) (w .is) ∙ stateAt-ahead m p p (omega arith) ∙ outset-at m p
+        ahead : isMove (getD state p 0) ≡ false
+        ahead =
+            ap (λ (t : List ℕ). isMove (getD t p 0)) (w .is)
+            ∙ ap isMove (stateAt-ahead m p p (omega arith))
+            ∙ outset-none m p (omega arith)
 
         one : movedCount (set state p c) ≡ movedCount state + 1
-        one = counted-move state p c (walked-inside l) ahead (rw chosen at (choice-sound m (stateAt m p) p (omega arith) some .1 .edge .code))
+        one = counted-move state p c (walked-inside l) ahead code
 
   -- the whole line has had its turns
   pub walked-whole : {own len : ℕ} {before state : List ℕ} {moved x : ℕ} → Walked own len before state moved x
@@ -122,14 +159,14 @@ module _ (m : Reading) where
     pub counted : moved ≡ movedCount state
     pub line : p < n → Line (m .sizes) p q
 
-  -- none has, and the table is all zeros
-  module _ {state : List ℕ} (e : state ≡ replicate (points (m .sizes)) 0) where
+  -- none has, and the table is that of the outset
+  module _ {state : List ℕ} (e : state ≡ outsetOf (m .label) (points (m .sizes))) where
     none-yet : state ≡ stateAt m 0
-    unfolding outset stateAt moveBy from
+    unfolding outsetOf outset stateAt moveBy from
     none-yet = e
 
     none-counted : 0 ≡ movedCount state
-    unfolding outset
+    unfolding outsetOf outset
     none-counted = sym (counted-none m) ∙ ap movedCount (sym e)
 
     pub warped-starts : {n : ℕ} {q : Site} → Line (m .sizes) 0 q → Warped n state q 0 0

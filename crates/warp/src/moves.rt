@@ -1,6 +1,6 @@
 // Which points move, and by which code.
 use crate::bytes;
-use ground::label;
+use ground::codes;
 use ground::ranges;
 use ground::violation;
 use ground::walk;
@@ -13,56 +13,43 @@ use lattice::numbers;
 use moving::Violation;
 ghost use mathlib.Core.Path.{_≡_};
 ghost use Prim.Native.Nat.{_+_, _<_, _≤_};
-ghost use lib.ListN.{length, replicate};
+ghost use lib.ListN.{length};
 ghost use Rattle.lattice.specs.Axis.{along-x};
 ghost use Rattle.lattice.specs.Counts.{Sized, grid, points};
 ghost use Rattle.lattice.specs.Direction.{Code};
 ghost use Rattle.lattice.specs.Edge.{neighbour};
 ghost use Rattle.lattice.specs.inner.Site.{Sited};
-ghost use Rattle.moving.specs.Label.{labels, isZero};
-ghost use Rattle.moving.specs.Reading.{labelAfter, live};
+ghost use Rattle.moving.specs.Label.{labels, bandMost};
 ghost use Rattle.moving.specs.Nearest.{nearest};
 ghost use Rattle.moving.specs.Moving.{stateAt, stateOf};
 ghost use Rattle.moving.specs.Block.{blockOf, readingOf, Tabled};
 ghost use Rattle.filling.specs.Fill.{movedCount};
 ghost use Rattle.ground.specs.inner.Lines.{Line};
-ghost use Rattle.warp.specs.inner.Quick.{liveAlong, deadAlong, byByte};
+ghost use Rattle.warp.specs.inner.Quick.{unfaded, openAlong, deadAlong, byByte, outsetOf};
 
-// A point's label is zero: it has moved, or its sample is in the band.
-fn is_faded(band: u32, samples: &[i16], state: &[u8], p: usize) -> bool
-    requires { ⌜ (p < length (now samples)) × (p < length (now state)) ⌝ }
-    ensures { λ r. ⌜ r ≡ isZero (labelAfter (labels band (now (samples .entry))) (now (state .entry)) p) ⌝ }
+// A cut between p and q is live: neither label is zero, and the state bytes tell.
+fn is_live(state: &[u8], p: usize, q: usize) -> bool
+    requires { ⌜ (p < length (now state)) × (q < length (now state)) ⌝ }
+    ensures { λ r. ⌜ r ≡ unfaded (now (state .entry)) p q ⌝ }
 {
-    if state[p] != 0 {
-        return true;
-    }
-    label::is_zero(band, samples[p])
-}
-
-// A cut between p and q is live: neither label is zero.
-fn is_live(band: u32, samples: &[i16], state: &[u8], p: usize, q: usize) -> bool
-    requires { ⌜ (p < length (now samples)) × (p < length (now state)) ⌝ }
-    requires { ⌜ (q < length (now samples)) × (q < length (now state)) ⌝ }
-    ensures { λ r. ⌜ r ≡ live (labels band (now (samples .entry))) (now (state .entry)) p q ⌝ }
-{
-    if is_faded(band, samples, state, p) {
+    if codes::says_zero(state[p]) {
         return false;
     }
-    !is_faded(band, samples, state, q)
+    !codes::says_zero(state[q])
 }
 
 // The edge from a point by a code exists, and its cut is live.
-fn is_live_by(s: Sizes, band: u32, samples: &[i16], state: &[u8], q: Site, code: usize) -> bool
+fn is_live_by(s: Sizes, state: &[u8], q: Site, code: usize) -> bool
     requires { ⌜ Sized s ⌝ }
-    requires { ⌜ (length (now samples) ≡ points s) × (length (now state) ≡ points s) ⌝ }
+    requires { ⌜ length (now state) ≡ points s ⌝ }
     requires { ⌜ Code code ⌝ }
     requires { ⌜ Sited s q ⌝ }
-    ensures { λ r. ⌜ r ≡ liveAlong (labels band (now (samples .entry))) (now (state .entry)) (q .own) (neighbour s (q .own) code) ⌝ }
+    ensures { λ r. ⌜ r ≡ openAlong (now (state .entry)) (q .own) (neighbour s (q .own) code) ⌝ }
 {
     let far = edges::neighbour(s, q, code);
     match far {
         Near::Nothing => false,
-        Near::At(e) => is_live(band, samples, state, q.own, e),
+        Near::At(e) => is_live(state, q.own, e),
     }
 }
 
@@ -83,23 +70,26 @@ fn nearest_byte(cuts: &[u8], at: [usize; 14]) -> usize
     found
 }
 
-// A code is given, and its cut is not live.
-fn is_dead(s: Sizes, band: u32, samples: &[i16], state: &[u8], q: Site, code: usize) -> bool
+// The code is a move, and its cut is not live.
+fn is_dead(s: Sizes, state: &[u8], q: Site, code: usize) -> bool
     requires { ⌜ Sized s ⌝ }
-    requires { ⌜ (length (now samples) ≡ points s) × (length (now state) ≡ points s) ⌝ }
-    requires { ⌜ code ≤ 14 ⌝ }
+    requires { ⌜ length (now state) ≡ points s ⌝ }
     requires { ⌜ Sited s q ⌝ }
-    ensures { λ r. ⌜ r ≡ deadAlong (labels band (now (samples .entry))) (now (state .entry)) (q .own) code (neighbour s (q .own) code) ⌝ }
+    ensures { λ r. ⌜ r ≡ deadAlong (now (state .entry)) (q .own) code (neighbour s (q .own) code) ⌝ }
 {
-    if code == 0 {
+    if !codes::is_move(code) {
         return false;
     }
-    !is_live_by(s, band, samples, state, q, code)
+    !is_live_by(s, state, q, code)
 }
+
+// The number after the last code: a search that begins there asks none.
+const PAST_CODES: usize = 15;
 
 // The points of a line take their turns. Mostly the nearest cut by the bytes is live, or there is
 // none; else the search of a point goes through all codes and keeps the nearest whose cut is live.
-// The answer counts the points that move.
+// Samples and band are not read here: the contract names them, for whose labels these are. The
+// answer counts the points that move.
 fn warp_line(s: Sizes, band: u32, samples: &[i16], cuts: &[u8], state: &mut [u8], q: Site) -> usize
     requires { ⌜ Tabled (blockOf s (now samples) (now cuts)) ⌝ }
     requires { ⌜ Line s (q .own) q ⌝ }
@@ -118,21 +108,21 @@ fn warp_line(s: Sizes, band: u32, samples: &[i16], cuts: &[u8], state: &mut [u8]
         let at = bytes::offsets(s, here);
         let mut found = nearest_byte(cuts, at);
         let mut best = Violation::No;
-        let mut first: usize = 15;
-        if is_dead(s, band, samples, state, here, found) {
+        let mut first: usize = PAST_CODES;
+        if is_dead(s, state, here, found) {
             found = 0;
             first = 1;
         }
-        for code in first..15 {
+        for code in first..PAST_CODES {
             let v = violation::violation(code, bytes::cut_at(cuts, at[code - 1]));
             if violation::is_nearer(v, best) {
-                if is_live_by(s, band, samples, state, here, code) {
+                if is_live_by(s, state, here, code) {
                     best = v;
                     found = code;
                 }
             }
         }
-        if found != 0 {
+        if codes::is_move(found) {
             state[p] = found as u8;
             moved += 1;
         }
@@ -140,12 +130,17 @@ fn warp_line(s: Sizes, band: u32, samples: &[i16], cuts: &[u8], state: &mut [u8]
     moved
 }
 
-// The table at the outset: no point has moved.
-fn clear(state: &mut [u8])
-    ensures { λ _. ⌜ now (state .exit) ≡ replicate (length (now (state .entry))) 0 ⌝ }
+// The table at the outset: the mark where a label is zero from the start. Nothing else is asked, so
+// that the compiled loop takes many points in one step.
+fn mark(band: u32, samples: &[i16], state: &mut [u8])
+    requires { ⌜ band ≤ bandMost ⌝ }
+    requires { ⌜ length (now samples) ≡ length (now state) ⌝ }
+    ensures { λ _. ⌜ now (state .exit) ≡ outsetOf (labels band (now (samples .entry))) (length (now (state .entry))) ⌝ }
 {
+    let high = band as i16;
+    let low = -high;
     for p in 0..state.len() {
-        state[p] = 0;
+        state[p] = codes::mark_of(low, high, samples[p]);
     }
 }
 
@@ -155,10 +150,11 @@ fn clear(state: &mut [u8])
 pub fn warp(s: Sizes, band: u32, samples: &[i16], cuts: &[u8], state: &mut [u8]) -> usize
     requires { ⌜ Tabled (blockOf s (now samples) (now cuts)) ⌝ }
     requires { ⌜ length (now state) ≡ points s ⌝ }
+    requires { ⌜ band ≤ bandMost ⌝ }
     ensures { λ r. ⌜ now (state .exit) ≡ stateOf (readingOf band (blockOf s (now (samples .entry)) (now (cuts .entry)))) ⌝ }
     ensures { λ r. ⌜ r ≡ movedCount (stateOf (readingOf band (blockOf s (now (samples .entry)) (now (cuts .entry))))) ⌝ }
 {
-    clear(state);
+    mark(band, samples, state);
     if ranges::is_blank(cuts, 0, cuts.len()) {
         return 0;
     }

@@ -86,13 +86,14 @@ static int fill_and_print(void)
 
 /*
  * Noise bands. All samples are 5 or -5: out of a band of 4, but in a band of 5, where nothing is left to fill and no point moves, however
- * near a cut is. Cut bytes and rim are tested by the samples as they are.
+ * near a cut is; a cut beside a point in the band has no place. Cut bytes and rim are tested by the samples as they are.
  */
 static void print_bands(void)
 {
     uint32_t rows[96];
     print_filled("band 4", fill_banded(4, rows, 96));
     print_filled("band 5", fill_banded(5, rows, 96));
+    print_place(POINTS + 91);
     cuts[91] = 63;
     print_filled("band 5, byte 91 is 63", fill_banded(5, rows, 96));
     cuts[91] = 0;
@@ -102,6 +103,21 @@ static void print_bands(void)
     print_filled("band 5, sample 27 is 1", fill_banded(5, rows, 96));
     samples[27] = -5;
     print_filled("band 32768", fill_banded(32768, rows, 96));
+}
+
+/* What a viewer colours: the points that lie on the skin, by the state table. A sample of 0 on the rim, and a cut near point 14. */
+static void print_skin(void)
+{
+    uint32_t rows[96];
+    samples[27] = 0;
+    cuts[192] = 0;
+    cuts[91] = 193;
+    print_filled("sample 27 is 0, byte 91 is 193", fill(rows, 96));
+    for (size_t p = 0; p < POINTS; p++)
+        if (state[p] != 0)
+            printf("point %lu lies on the skin, %s\n", (unsigned long)p, state[p] == YAKUEMI_ON_SKIN ? "unmoved" : "moved");
+    print_place(27);
+    given_case();
 }
 
 /* The same block with one thing wrong at a time; each is put right again. */
@@ -238,8 +254,8 @@ static void print_numbering_refusals(void)
     print_numbered("entry 50 is 280", number(rows, 96, nodes, 60));
     rows[50] = id;
     rows[7] = 12;
-    state[12] = 15;
-    print_numbered("entry 7 is 12, whose state byte is 15", number(rows, 96, nodes, 60));
+    state[12] = YAKUEMI_ON_SKIN + 1;
+    print_numbered("entry 7 is 12, whose state byte is 16", number(rows, 96, nodes, 60));
     rows[50] = 8 * POINTS;
     print_numbered("both, no room", number(rows, 96, nodes, 0));
     print_numbered("both, no room, 95 numbers of rows", number(rows, 95, nodes, 0));
@@ -258,6 +274,7 @@ int main(void)
     if (fill_and_print() != EXIT_SUCCESS)
         return EXIT_FAILURE;
     print_bands();
+    print_skin();
     print_refusals();
     print_readings();
     print_mending();

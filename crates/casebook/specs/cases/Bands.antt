@@ -13,9 +13,9 @@ use Rattle.moving.specs.Label.{signs}
 use Rattle.moving.specs.Block.{Block, blockOf}
 use Rattle.stencil.specs.Row.{row}
 use Rattle.filling.specs.Check.{crosses}
-use Rattle.casebook.specs.cases.Lent.{as-lent, codes}
+use Rattle.casebook.specs.cases.Lent.{as-lent, codes, all-marked}
 use Rattle.casebook.specs.cases.Given.{givenSizes, givenSamples, givenCuts, unchanged, byte-at, sample-at, changed, allEntered}
-use Rattle.casebook.specs.cases.Cases.{Case, banded, first-row, place-of, filled, too-short, refused, at}
+use Rattle.casebook.specs.cases.Cases.{Case, banded, first-row, place-of, filled, too-short, refused, at, nowhere}
 
 -- the corners inside 4 by 2 by 2 cubes are 21, 22 and 23, side by side along x
 abbrev rodSizes : Sizes
@@ -38,14 +38,13 @@ bands =
     banded 0 (changed unchanged) 100 (filled 24 0) (codes []) (first-row (row 13 65 235 227) (pos 8388608) ∷ [])
     ∷ banded 4 (changed unchanged) 100 (filled 24 0) (codes []) (first-row (row 13 65 235 227) (pos 8388608) ∷ [])
     -- "A sample whose size is at most the band has label zero": no row is left, and no table is too short for none
-    ∷ banded 5 (changed unchanged) 0 (filled 0 0) (codes []) (place-of 13 (at 512 512 512) ∷ [])
-    ∷ banded 32767 (changed unchanged) 100 (filled 0 0) (codes []) []
+    ∷ banded 5 (changed unchanged) 0 (filled 0 0) (codes (all-marked 35)) (place-of 13 (at 512 512 512) ∷ [])
+    ∷ banded 32767 (changed unchanged) 100 (filled 0 0) (codes (all-marked 35)) []
     -- "14 "band", the band is above 32767 .. it writes nothing"
     ∷ banded 32768 (changed unchanged) 100 (refused 14 0) as-lent []
-    -- "a cut byte beside a zero label is simply not live": P2's cut moves point 13 while both its ends are outside the band. In it the cut,
-    -- id 126, still has its place
+    -- "a cut byte beside a zero label is simply not live": P2's cut, id 126, moves point 13 while both its ends are outside the band
     ∷ banded 4 (changed (byte-at 91 63)) 100 (filled 0 1) (codes (13 := 1 ∷ [])) (place-of 13 (at 638 512 512) ∷ [])
-    ∷ banded 5 (changed (byte-at 91 63)) 100 (filled 0 0) (codes []) (place-of 13 (at 512 512 512) ∷ place-of 126 (at 638 512 512) ∷ [])
+    ∷ banded 5 (changed (byte-at 91 63)) 100 (filled 0 0) (codes (all-marked 35)) (place-of 13 (at 512 512 512) ∷ place-of 126 (nowhere 8) ∷ [])
     -- "The rim and cut-byte tests go on reading raw samples": P12, P10 and P11 in a band that takes in every sample
     ∷ banded 5 (changed (sample-at 27 (pos 1))) 100 (refused 5 27) as-lent []
     ∷ banded 5 (changed (byte-at 91 0)) 100 (refused 6 91) as-lent []
@@ -54,12 +53,13 @@ bands =
     ∷ banded 4 (blockOf givenSizes (set givenSamples 14 (negℤ (pos 32768))) (set givenCuts 91 63)) 100 (filled 0 1) (codes (13 := 1 ∷ [])) []
     -- the rod, and with 22 in the band what is left of it about 21 and 23: as many rows as two given cases have
     ∷ banded 2 (rod []) 320 (filled 80 0) (codes []) (first-row (row 21 105 387 379) (pos 8388608) ∷ [])
-    ∷ banded 3 (rod []) 192 (filled 48 0) (codes []) (first-row (row 21 105 387 379) (pos 8388608) ∷ place-of 22 (at 1024 512 512) ∷ [])
-    ∷ banded 3 (rod []) 191 (too-short 48 0) (codes []) []
-    ∷ banded 5 (rod []) 0 (filled 0 0) (codes []) []
+    ∷ banded 3 (rod []) 192 (filled 48 0) (codes (22 := 15 ∷ []))
+    (first-row (row 21 105 387 379) (pos 8388608) ∷ place-of 22 (at 1024 512 512) ∷ [])
+    ∷ banded 3 (rod []) 191 (too-short 48 0) (codes (22 := 15 ∷ [])) []
+    ∷ banded 5 (rod []) 0 (filled 0 0) (codes (all-marked (points rodSizes))) []
     -- a cut that violates 22, and one that violates the point beyond it: with 22 in the band neither is live, so neither point moves
     ∷ banded 2 (rod (155 := 63 ∷ [])) 320 (filled 48 1) (codes (22 := 2 ∷ [])) (place-of 22 (at 1024 638 512) ∷ [])
-    ∷ banded 3 (rod (155 := 63 ∷ [])) 320 (filled 48 0) (codes []) (place-of 22 (at 1024 512 512) ∷ [])
+    ∷ banded 3 (rod (155 := 63 ∷ [])) 320 (filled 48 0) (codes (22 := 15 ∷ [])) (place-of 22 (at 1024 512 512) ∷ [])
     ∷ banded 2 (rod (155 := 193 ∷ [])) 320 (filled 80 1) (codes (27 := 9 ∷ [])) (place-of 27 (at 1024 898 512) ∷ [])
-    ∷ banded 3 (rod (155 := 193 ∷ [])) 320 (filled 48 0) (codes []) (place-of 27 (at 1024 1024 512) ∷ [])
+    ∷ banded 3 (rod (155 := 193 ∷ [])) 320 (filled 48 0) (codes (22 := 15 ∷ [])) (place-of 27 (at 1024 1024 512) ∷ [])
     ∷ []

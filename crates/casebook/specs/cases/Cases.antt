@@ -82,18 +82,21 @@ cases =
     ∷ case unchanged 96 (filled 24 0) (codes []) []
     ∷ []
 
--- State bytes above 14, after the given case with one byte changed (as in P4, and its like along y): "9: the state byte is above 14", though
--- the directions of 15 and 16 would be those of 8 and 9, whose cuts violate; "8: .. or has an end with a non-zero state byte", either end.
--- The theorem is `strange-come-out`.
+-- State bytes that no filling writes, above 15, after the given case with one byte changed (as in P4, and its like along y): "9 begins above
+-- 15", though the directions of 16 and 17 would be those of 9 and 10, whose cuts violate; "8: .. or has an end with a non-zero state byte",
+-- either end. The theorem is `strange-come-out`.
 unfoldable pub strange : List Case
 strange =
     case (byte-at 91 193) 100 (filled 24 1) (codes (14 := 8 ∷ []))
     (place-of 14 (at 898 512 512)
-    ∷ place-with (14 := 15) 14 (nowhere 9)
+    ∷ place-with (14 := 16) 14 (nowhere 9)
+    ∷ place-with (14 := 255) 14 (nowhere 9)
     ∷ place-of 127 (at 512 768 512)
-    ∷ place-with (13 := 15) 127 (nowhere 8)
-    ∷ place-with (16 := 15) 127 (nowhere 8)
+    ∷ place-with (13 := 16) 127 (nowhere 8)
+    ∷ place-with (16 := 16) 127 (nowhere 8)
     ∷ [])
     ∷ case (byte-at 92 193) 100 (filled 24 1) (codes (16 := 9 ∷ []))
     (place-of 16 (at 512 898 512) ∷ place-with (16 := 16) 16 (nowhere 9) ∷ [])
+    ∷ case (byte-at 93 193) 100 (filled 24 1) (codes (22 := 10 ∷ []))
+    (place-of 22 (at 512 512 898) ∷ place-with (22 := 17) 22 (nowhere 9) ∷ [])
     ∷ []

@@ -104,13 +104,23 @@ numberings =
     ∷ refuses [] (13 ∷ 65 ∷ 227 ∷ 217 ∷ []) 16 8 0 3
     ∷ refuses [] (row ++ (13 ∷ 65 ∷ 280 ∷ 280 ∷ [])) 32 8 0 6
     ∷ refuses [] (row ++ (4294967295 ∷ 65 ∷ 126 ∷ 36 ∷ [])) 32 8 0 4
-    -- 8 for the cut of a point with a state byte, 9 for the point: above 14, and a code whose cut does not violate it
+    -- 8 for the cut of a point with a state byte that is not 0, 9 for the point: above 15, and a code whose cut does not violate it
     ∷ refuses (14 := 8 ∷ []) (13 ∷ 65 ∷ 126 ∷ 227 ∷ []) 16 8 0 2
-    ∷ refuses (14 := 15 ∷ []) (13 ∷ 65 ∷ 227 ∷ 14 ∷ []) 16 9 0 3
+    ∷ refuses (14 := 16 ∷ []) (13 ∷ 65 ∷ 227 ∷ 14 ∷ []) 16 9 0 3
     ∷ refuses (14 := 8 ∷ []) (13 ∷ 14 ∷ 65 ∷ 227 ∷ []) 16 9 0 1
     -- the entry that comes first, whichever its number and whichever its id
-    ∷ refuses (14 := 15 ∷ []) (13 ∷ 36 ∷ 14 ∷ 65 ∷ []) 16 8 0 1
-    ∷ refuses (14 := 15 ∷ []) (13 ∷ 14 ∷ 36 ∷ 65 ∷ []) 16 9 0 1
+    ∷ refuses (14 := 16 ∷ []) (13 ∷ 36 ∷ 14 ∷ 65 ∷ []) 16 8 0 1
+    ∷ refuses (14 := 16 ∷ []) (13 ∷ 14 ∷ 36 ∷ 65 ∷ []) 16 9 0 1
+    -- F-8: a point with the mark is a node at its own place, and a cut beside it has none
+    ∷ refuses (14 := 15 ∷ []) (13 ∷ 65 ∷ 126 ∷ 227 ∷ []) 16 8 0 2
+    ∷ record {
+      sizes = givenSizes;
+      cuts = givenCuts;
+      state = tableOf 35 (14 := 15 ∷ []);
+      rows = 14 ∷ 13 ∷ 65 ∷ 227 ∷ [];
+      nodes = lentRows 16;
+      outcome = outcome 0 4 0 (1 ∷ 0 ∷ 2 ∷ 3 ∷ []) (of13 ++ (node 14 1024 512 512 ++ (of65 ++ of227)));
+    }
     -- "Checks: 1, 3, 4, then 15 .. then 8 or 9, then 10"
     ∷ refuses [] (13 ∷ 36 ∷ 65 ∷ 227 ∷ []) 0 8 0 1
     ∷ refuses [] (13 ∷ []) 16 15 0 0

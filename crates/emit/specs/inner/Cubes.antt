@@ -121,7 +121,7 @@ module _ (label : ℕ → Label) where
   unfoldable pub plusCount : Cube → ℕ
   plusCount c = total plusAt c
 
--- none of the six points has moved: their state bytes are all 0
+-- none of the six points has moved, and none has the mark: their state bytes are all 0
 unfoldable pub unmoved : List ℕ → Cube → Bool
 unmoved state c = eqb (total (λ p. getD state p 0) c) 0
 

@@ -1,11 +1,11 @@
 -- What the tests of a point compute and say. By the bytes alone it is decided that a point stays; that it moves, only with a cut that is live.
 use Prim.Native.Nat.{ℕ, _+_, _*_, _-_, _≤_, _<_}
 use mathlib.Core.Path.{_≡_}
-use mathlib.Core.Bool.{Bool, false, not}
-use mathlib.Core.List.{List}
+use mathlib.Core.Bool.{Bool, false, not, _&&_}
+use mathlib.Core.List.{List, map}
 use lib.ListN.{getD}
-use lib.Dec.{eqb}
 use Rattle.basics.specs.Choice.{if_then_else_}
+use Rattle.basics.specs.Lists.{below}
 use Rattle.lattice.specs.declared.Sizes.{Sizes}
 use Rattle.lattice.specs.declared.Near.{Near}
 use Rattle.lattice.specs.declared.Near.the-variants.{At, Nothing}
@@ -16,16 +16,30 @@ use Rattle.lattice.specs.inner.Site.{index}
 use Rattle.moving.specs.declared.Label.{Label}
 use Rattle.moving.specs.declared.Violation.{Violation}
 use Rattle.moving.specs.Violation.{rule1, violation}
+use Rattle.moving.specs.State.{isMove, saysZero}
 use Rattle.moving.specs.Reading.{live}
+use Rattle.moving.specs.Moving.{markOf}
 
 -- the edge from p to this neighbour exists, and its cut is live
 unfoldable pub liveAlong : (ℕ → Label) → List ℕ → ℕ → Near → Bool
 liveAlong label codes p Nothing = false
 liveAlong label codes p (At q) = live label codes p q
 
--- a code is given, and its cut is not live
-unfoldable pub deadAlong : (ℕ → Label) → List ℕ → ℕ → ℕ → Near → Bool
-deadAlong label codes p c n = if eqb c 0 then false else not (liveAlong label codes p n)
+-- the same by the state bytes alone: neither of them says that its label is zero
+unfoldable pub unfaded : List ℕ → ℕ → ℕ → Bool
+unfaded codes p q = not (saysZero (getD codes p 0)) && not (saysZero (getD codes q 0))
+
+unfoldable pub openAlong : List ℕ → ℕ → Near → Bool
+openAlong codes p Nothing = false
+openAlong codes p (At q) = unfaded codes p q
+
+-- a code is a move, and its cut is not live
+unfoldable pub deadAlong : List ℕ → ℕ → ℕ → Near → Bool
+deadAlong codes p c n = if isMove c then not (openAlong codes p n) else false
+
+-- the table at the outset of the first n points
+unfoldable pub outsetOf : (ℕ → Label) → ℕ → List ℕ
+outsetOf label n = map (λ p. markOf (label p)) (below n)
 
 -- where the bytes of a point's fourteen edges stand, by code, each if its edge exists
 pub record Offsets (s : Sizes) (q : Site) (at : List ℕ) : Type 0 where

@@ -5,9 +5,11 @@ use reference::fill::Filled;
 use reference::generate::any_band;
 use reference::lattice::Lattice;
 use reference::mend::Mended;
+use reference::metric::{place_mm, place_mm_plain};
 use reference::nodes::{Numbered, Numbering};
 use reference::place::place;
 use reference::random::Random;
+use reference::state::ON_SKIN;
 
 pub mod mutations;
 
@@ -73,13 +75,23 @@ pub fn good_call(random: &mut Random, block: Block) -> Call {
     Call::good(block, band, 0)
 }
 
-/// Noise in the cut and the state table of a block: bytes at the limits and beside them, codes and bytes that are none.
+/// A call with an exact row table, and its T and M: they are asked for, with no room at all.
+pub fn exact_call(block: Block, band: u32, random: &mut Random) -> (Call, Filled) {
+    let state_length = block.samples.len();
+    let mut call = Call { block, band, state_length, row_length: 0 };
+    let asked = same_filling(&call, random.bits());
+    call.row_length = 4 * asked.rows as usize;
+    (call, asked)
+}
+
+/// Noise in the cut and the state table of a block: bytes at the limits and beside them; codes, the mark of a point on the skin, which is
+/// believable anywhere, and bytes that are not believable.
 pub fn disturb(random: &mut Random, cuts: &mut [u8], state: &mut [u8]) {
     for _ in 0..random.below(60) {
         cuts[random.below(cuts.len())] = random.pick(&[0, 1, 63, 64, 105, 106, 150, 151, 192, 193, 255]);
     }
     for _ in 0..random.below(30) {
-        state[random.below(state.len())] = random.pick(&[1, 2, 4, 7, 8, 9, 11, 14, 15, 16, 255]);
+        state[random.below(state.len())] = random.pick(&[1, 2, 4, 7, 8, 9, 11, 14, ON_SKIN, 16, 255]);
     }
 }
 
@@ -137,4 +149,17 @@ pub fn same_place(sizes: [u32; 3], cuts: &[u8], state: &[u8], id: u32) -> u32 {
     let theirs = place(sizes[0], sizes[1], sizes[2], cuts, state, id);
     assert_eq!((ours.number, ours.x, ours.y, ours.z), (theirs.number, theirs.x, theirs.y, theirs.z), "id {id}");
     ours.number
+}
+
+/// Asks the library and the separate software, with floats and by whole numbers, for the place of an id in millimetres, at the unit with
+/// these bits: number and bits are the same. Gives the number and the bits.
+pub fn same_place_mm(sizes: [u32; 3], cuts: &[u8], state: &[u8], id: u32, unit: u64) -> (u32, [u64; 3]) {
+    let ([nx, ny, nz], number) = (sizes, f64::from_bits(unit));
+    let ours = yakuemi::raw::place_mm(sizes, cuts, state, id, number);
+    let theirs = place_mm(nx, ny, nz, cuts, state, id, number);
+    let ours = (ours.number, [ours.point.x, ours.point.y, ours.point.z].map(f64::to_bits));
+    let theirs = (theirs.number, [theirs.point.x, theirs.point.y, theirs.point.z].map(f64::to_bits));
+    assert_eq!(ours, theirs, "id {id}, unit {unit:#018x}");
+    assert_eq!(ours, place_mm_plain(nx, ny, nz, cuts, state, id, unit), "id {id}, unit {unit:#018x}");
+    ours
 }

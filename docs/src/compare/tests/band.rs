@@ -1,6 +1,6 @@
 //! Filling with a band (request F-3): answer, state table and row table, bit for bit, on valid and damaged blocks and on whole parts. How
 //! many points are in the band though their samples are not zero is counted, and how many cuts beside them are not live.
-use compare::{ends, same_filling, same_place, three_tables};
+use compare::{ends, exact_call, same_filling, same_place, three_tables};
 use reference::block::Block;
 use reference::check::check_mesh;
 use reference::cut::{violation, End};
@@ -11,15 +11,7 @@ use reference::lattice::Lattice;
 use reference::plain::label;
 use reference::random::Random;
 use reference::shapes::{mount, ribs, sphere, tenth_band};
-
-/// A call with an exact row table, and its T and M: they are asked for, with no room at all.
-fn exact_call(block: Block, band: u32, random: &mut Random) -> (Call, Filled) {
-    let state_length = block.samples.len();
-    let mut call = Call { block, band, state_length, row_length: 0 };
-    let asked = same_filling(&call, random.bits());
-    call.row_length = 4 * asked.rows as usize;
-    (call, asked)
-}
+use reference::state::ON_SKIN;
 
 /// Whether a point is on the skin by the band alone.
 fn in_band(call: &Call, point: usize) -> bool {
@@ -149,7 +141,8 @@ fn flickering_mount(random: &mut Random) -> Block {
     Block { sizes, samples, cuts }
 }
 
-/// What the request is for: without a band the flicker is filled like rubber, and a band of 3 leaves the part alone.
+/// What the request is for: without a band the flicker is filled like rubber, and a band of 3 leaves the part alone. The flicker's points
+/// are marked then, as request F-8 says, and those of the part have the state bytes they have without it.
 #[test]
 fn flicker_in_plain_air() {
     let mut random = Random::new(116);
@@ -159,7 +152,11 @@ fn flicker_in_plain_air() {
     let (clean, _) = exact_call(mount(), 3, &mut random);
     let [flickering, clean] = [three, clean].map(|call| call.run(compare::fill, &mut Random::new(1)));
     assert_eq!((flickering.filled.number, flickering.filled), (0, clean.filled));
-    assert!(flickering.state == clean.state && flickering.rows == clean.rows);
+    assert!(flickering.rows == clean.rows);
+    let is_flicker = |point: usize| label(3, block.samples[point]) == 0;
+    let marked = (0..block.samples.len()).filter(|&point| is_flicker(point) && flickering.state[point] == ON_SKIN).count();
+    let same = (0..block.samples.len()).filter(|&point| !is_flicker(point) && flickering.state[point] == clean.state[point]).count();
+    assert!(marked > 10_000 && same > 10_000 && marked + same == block.samples.len(), "{marked} {same}");
 }
 
 /// Refusals 5, 6 and 7 read the samples as they are: that of a rim point that is in the band, and that of a byte beside such a point.
@@ -214,8 +211,8 @@ fn fourteen_comes_after_one() {
     }
 }
 
-/// The place of every id; and demand 3 by counting, of the library's own rows: a point in the band is on the skin. A cut beside one has a
-/// place too, if its other end did not move, but stands in no row.
+/// The place of every id; and demand 3 by counting, of the library's own rows: a point in the band is on the skin. A cut beside one stands
+/// in no row and, since request F-8, has no place: it is refused by 8.
 #[test]
 fn every_id_of_banded_blocks() {
     let mut random = Random::new(119);
@@ -231,9 +228,12 @@ fn every_id_of_banded_blocks() {
             ends.is_some_and(|ends| ends.iter().any(|&point| in_band(&call, point)))
         };
         for id in (0..8 * points + 3).chain([u32::MAX]) {
-            if same_place(block.sizes, &block.cuts, &outcome.state, id) == 0 {
-                placed += 1;
-                dead += usize::from(is_dead(id));
+            let number = same_place(block.sizes, &block.cuts, &outcome.state, id);
+            placed += usize::from(number == 0);
+            let byte = id.checked_sub(points).and_then(|offset| block.cuts.get(offset as usize));
+            if byte.is_some_and(|&byte| byte != 0) && is_dead(id) {
+                assert_eq!(number, 8, "id {id}");
+                dead += 1;
             }
         }
         for &id in &outcome.rows {

@@ -5,13 +5,13 @@ use compare::{good_call, same_filling, three_tables};
 use reference::block::Block;
 use reference::damage::{Call, DAMAGES};
 use reference::generate::{any_block, block, crowded_block, Cutting, CUTTINGS, MIXES};
-use reference::plain::{first, move_points_by, nearest, Choice};
+use reference::plain::{first, marked, move_points_by, nearest, Choice};
 use reference::random::Random;
 
 /// How many points would have moved to another cut before request F-2.
 fn moved_elsewhere(block: &Block) -> usize {
     let lattice = block.lattice().unwrap();
-    let codes = |choice: Choice| move_points_by(choice, &lattice, 0, &block.samples, &block.cuts).codes;
+    let codes = |choice: Choice| move_points_by(choice, marked, &lattice, 0, &block.samples, &block.cuts).codes;
     codes(first).iter().zip(codes(nearest)).filter(|(&old, new)| old != *new).count()
 }
 

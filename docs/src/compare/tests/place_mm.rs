@@ -2,7 +2,6 @@
 //! damaged calls. Units are bit patterns here, so that each NaN and each zero is itself.
 use reference::block::Block;
 use reference::generate::{any_block, block, CUTTINGS, MIXES};
-use reference::metric::{place_mm, place_mm_plain};
 use reference::random::Random;
 use std::num::FpCategory;
 
@@ -79,17 +78,11 @@ impl Tables {
     /// The number is that of the place call, or 13 in place of 0. Answers it.
     fn same(&self, id: u32, unit: u64) -> u32 {
         let Tables { sizes, cuts, state } = self;
-        let ([nx, ny, nz], number) = (*sizes, f64::from_bits(unit));
-        let ours = yakuemi::raw::place_mm(*sizes, cuts, state, id, number);
-        let theirs = place_mm(nx, ny, nz, cuts, state, id, number);
-        let ours = (ours.number, [ours.point.x, ours.point.y, ours.point.z].map(f64::to_bits));
-        let theirs = (theirs.number, [theirs.point.x, theirs.point.y, theirs.point.z].map(f64::to_bits));
-        assert_eq!(ours, theirs, "id {id}, unit {unit:#018x}");
-        assert_eq!(ours, place_mm_plain(nx, ny, nz, cuts, state, id, unit), "id {id}, unit {unit:#018x}");
+        let (number, _) = compare::same_place_mm(*sizes, cuts, state, id, unit);
         let in_steps = yakuemi::raw::place(*sizes, cuts, state, id).number;
         let refused = in_steps == 0 && !is_accepted(unit);
-        assert_eq!(ours.0, if refused { 13 } else { in_steps }, "id {id}, unit {unit:#018x}");
-        ours.0
+        assert_eq!(number, if refused { 13 } else { in_steps }, "id {id}, unit {unit:#018x}");
+        number
     }
 }
 

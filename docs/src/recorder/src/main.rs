@@ -14,6 +14,7 @@ mod week;
 
 use reference::damage::{Call, Outcome};
 use reference::place::{place, Placed};
+use reference::state::{is_move, ON_SKIN};
 use reference::{fill, plain};
 use std::io::Write;
 
@@ -75,9 +76,10 @@ fn run(call: &Call, lent_state: u8, lent_row: u32) -> Outcome {
     plain
 }
 
-/// The first id of each kind: a point that moved, one that did not, a cut, a
-/// cut with an end that moved, a byte that is zero, the first id that is none;
-/// then state bytes that are not believable.
+/// The first id of each kind: a point that moved, one that lies on the skin
+/// unmoved, any other, a cut, a cut with an end of label zero, a byte that is
+/// zero, the first id that is none; then state bytes put in by hand: the mark,
+/// one above it, and codes that are mostly not believable.
 fn questions(call: &Call, state: &[u8]) -> Vec<Question> {
     let n = state.len();
     if n == 0 || n != call.block.samples.len() || call.block.cuts.len() != 7 * n {
@@ -85,7 +87,8 @@ fn questions(call: &Call, state: &[u8]) -> Vec<Question> {
     }
     let cuts = &call.block.cuts;
     let first_point = |test: &dyn Fn(usize) -> bool| (0..n).find(|&p| test(p));
-    let moved = first_point(&|p| state[p] != 0);
+    let moved = first_point(&|p| is_move(state[p]));
+    let marked = first_point(&|p| state[p] == ON_SKIN);
     let still = first_point(&|p| state[p] == 0);
     let cut_ids = (n..8 * n).filter(|id| cuts[id - n] != 0);
     let answers: Vec<Question> = cut_ids.map(|id| ask(call, state, id, None)).collect();
@@ -93,14 +96,14 @@ fn questions(call: &Call, state: &[u8]) -> Vec<Question> {
     let cut = numbers(0).map(|q| q.id as usize);
     let dead = numbers(8).map(|q| q.id as usize);
     let gap = (n..8 * n).find(|id| cuts[id - n] == 0);
-    let ids = [moved, still, cut, dead, gap, Some(8 * n)];
+    let ids = [moved, marked, still, cut, dead, gap, Some(8 * n)];
     let mut list: Vec<Question> = ids
         .into_iter()
         .flatten()
         .map(|id| ask(call, state, id, None))
         .collect();
     let middle = n / 2;
-    for code in [15, 1, 4, 8, 14] {
+    for code in [ON_SKIN, ON_SKIN + 1, 1, 4, 8, 14] {
         list.push(ask(call, state, middle, Some((middle, code))));
     }
     list

@@ -6,6 +6,7 @@ use crate::BAND;
 use reference::block::Block;
 use reference::blockfile::fill_block;
 use reference::metric::place_mm_plain;
+use reference::state::ON_SKIN;
 
 /// A question after filling: a state byte that is set (to itself, where
 /// nothing is to change), an id and a unit.
@@ -32,7 +33,7 @@ pub fn file() -> String {
 }
 
 /// The first row's corners, then the ends of the unit's range, then refusals
-/// that come before 13.
+/// that come before 13, and a point with the mark, to which 13 comes.
 fn questions() -> Vec<Question> {
     let ask = |id: u32, unit: f64| Question {
         entry: (0, 0),
@@ -62,12 +63,14 @@ fn questions() -> Vec<Question> {
     ];
     list.extend(ends.into_iter().chain(strange).map(|unit| ask(13, unit)));
     list.push(ask(280, 0.0));
-    for unit in [1.0, f64::NAN] {
-        list.push(Question {
-            entry: (13, 15),
-            id: 13,
-            unit,
-        });
+    for code in [ON_SKIN, ON_SKIN + 1] {
+        for unit in [1.0, f64::NAN] {
+            list.push(Question {
+                entry: (13, code),
+                id: 13,
+                unit,
+            });
+        }
     }
     list
 }

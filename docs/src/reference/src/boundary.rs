@@ -165,6 +165,7 @@ mod tests {
     use crate::blockfile::fill_block;
     use crate::generate::crowded_block;
     use crate::random::Random;
+    use crate::state::count_moves;
 
     /// A block with what filling leaves, and its faces in one row only.
     struct Mesh {
@@ -212,7 +213,7 @@ mod tests {
         let mut meshes = vec![Mesh::of(Block::given_case())];
         while meshes.len() < 12 {
             let mesh = Mesh::of(crowded_block(&mut random, 3));
-            if mesh.state.iter().any(|&code| code != 0) && (2..100).contains(&mesh.rows.len()) {
+            if count_moves(&mesh.state) > 0 && (2..100).contains(&mesh.rows.len()) {
                 meshes.push(mesh);
             }
         }

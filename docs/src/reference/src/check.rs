@@ -5,14 +5,16 @@
 //! six-volume above zero, and every face lies in exactly two rows that wind it
 //! opposite ways, or in exactly one and then with its three corners on the
 //! skin. On the skin are a cut point, a moved point and, since request F-3 of
-//! document 02, a point whose sample's size is at most the band. Nothing of
-//! how the rows came about is used, but which points the rules move is found
-//! anew and not read off the state table.
+//! document 02, a point whose sample's size is at most the band. Request F-8
+//! changes no row and no face, and so not the skin either. Nothing of how the
+//! rows came about is used, but which points the rules move is found anew and
+//! not read off the state table, nor is which points are in the band.
 
 use crate::block::Block;
 use crate::cut::{six_volume, Place};
 use crate::place::place;
 use crate::plain::move_points;
+use crate::state::is_move;
 use std::collections::HashMap;
 
 /// The faces of a good mesh.
@@ -96,7 +98,7 @@ fn check_faces(
     let in_band = |sample: i16| i64::from(sample).abs() <= i64::from(band);
     let on_skin = |&id: &u32| {
         let id = id as usize;
-        id >= lattice.point_count() || moved[id] != 0 || in_band(block.samples[id])
+        id >= lattice.point_count() || is_move(moved[id]) || in_band(block.samples[id])
     };
     let mut count = Faces { inner: 0, skin: 0 };
     for (face, windings) in faces {

@@ -58,8 +58,7 @@ pub const fn violation(t: u8, direction: usize, end: End) -> Option<u32> {
 }
 
 /// What a code from 1 to 14 names at a point: the edge, and which end of it
-/// the point is. None if the code is another number or the edge does not
-/// exist.
+/// the point is. None if the state byte is no move or the edge does not exist.
 pub fn edge_of_code(lattice: &Lattice, point: usize, code: u8) -> Option<(Edge, End)> {
     let code = usize::from(code);
     match code {

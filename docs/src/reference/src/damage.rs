@@ -5,7 +5,8 @@
 //! document 02, request F-3: 14) has one kind of damage, and mending (request
 //! F-4) shares the first of them. Several damages can be done to one call, to
 //! see in which order the refusals come. The node table (request F-6) is asked
-//! of any row table, so its calls are good ones and others alike.
+//! of any row table, so its calls are good ones and others alike; state byte 15
+//! (request F-8) is put in both ways, at points in use and beside cuts in use.
 
 use crate::block::Block;
 use crate::blockfile::fill_block;
@@ -18,6 +19,7 @@ use crate::plain;
 use crate::random::Random;
 use crate::refusal;
 use crate::shapes;
+use crate::state::ON_SKIN;
 
 /// The inputs of one call of filling; of the lent tables only the lengths.
 #[derive(Clone, Debug)]
@@ -284,6 +286,9 @@ pub struct NodesOutcome {
     pub nodes: Vec<u32>,
 }
 
+/// State bytes that are not believable wherever they stand: "9 begins above 15".
+pub const BAD_CODES: [u8; 4] = [16, 17, 128, 255];
+
 /// A call for the node table: of a filled block with its own rows, or of other
 /// rows with ids in any order; with ids that have no place first, last or in the
 /// middle; with state and cut bytes that filling did not leave; with tables of
@@ -386,24 +391,40 @@ impl NodesCall {
         self.nodes = (0..length).map(|_| random.bits() as u32).collect();
     }
 
-    /// Gives some points, mostly such that are in use, another state byte.
+    /// Gives some points, mostly such that are in use or beside a cut in use,
+    /// another state byte: a code, the mark of a point on the skin, or one that
+    /// is not believable.
     fn spoil_some_codes(&mut self, random: &mut Random) {
-        let n = self.state.len();
         for _ in 0..random.pick(&[1, 1, 2, 5]) {
-            let any_point = random.below(n);
-            let in_use = match self.rows[..] {
-                [] => any_point,
-                _ => random.pick(&self.rows) as usize,
-            };
-            let point = if in_use < n { in_use } else { any_point };
+            let point = self.point_in_use(random);
             let code = random.between(0, 14) as u8;
-            self.state[point] = random.pick(&[code, code, code, 15, 16, 128, 255]);
+            let bad = random.pick(&BAD_CODES);
+            self.state[point] = random.pick(&[code, code, code, ON_SKIN, ON_SKIN, bad, bad]);
         }
+    }
+
+    /// A point that the rows of the filled block name, or an end of a cut that
+    /// they name; any point now and then, or if there are no rows.
+    fn point_in_use(&self, random: &mut Random) -> usize {
+        let n = self.state.len();
+        let any_point = random.below(n);
+        if self.rows.is_empty() || random.percent(10) {
+            return any_point;
+        }
+        let id = random.pick(&self.rows) as usize;
+        let Some(offset) = id.checked_sub(n) else {
+            return id;
+        };
+        let [nx, ny, nz] = self.sizes;
+        let lattice = Lattice::new(nx, ny, nz).expect("the sizes of a filled block");
+        let (start, direction) = (offset / 7, offset % 7);
+        let end = lattice.end(start, direction).expect("the edge of a cut");
+        random.pick(&[start, end])
     }
 
     /// Gives all points other state bytes, mostly 0, and all edges, even those
     /// that do not exist, mostly any byte: each code is then believable here and
-    /// there, and each direction cut.
+    /// there, 15 everywhere and 16 nowhere, and each direction cut.
     fn spoil_all_codes(&mut self, random: &mut Random) {
         let stay = random.pick(&[30, 70, 95]);
         for code in &mut self.state {
@@ -503,7 +524,7 @@ impl NodesCall {
     fn spoil_entries(&mut self, random: &mut Random) {
         if random.percent(40) {
             let point = random.below(self.state.len());
-            self.state[point] = random.pick(&[15, 16, 128, 255]);
+            self.state[point] = random.pick(&BAD_CODES);
         }
         let without = self.ids(false);
         let length = self.rows.len();
@@ -597,5 +618,51 @@ fn pick_or(random: &mut Random, choices: &[u32], other: u32) -> u32 {
 fn shuffle(random: &mut Random, numbers: &mut [u32]) {
     for n in (1..numbers.len()).rev() {
         numbers.swap(n, random.below(n + 1));
+    }
+}
+
+#[cfg(test)]
+mod tests {
+    use super::*;
+    use crate::generate::cuts_where_needed;
+    use crate::nodes::nodes;
+
+    /// All rubber but the rim, halfway cuts, and no sample of zero: filling
+    /// leaves nothing but zeros in the state table.
+    fn call_without_marks() -> NodesCall {
+        let sizes = [6; 3];
+        let lattice = Lattice::new(6, 6, 6).unwrap();
+        let sample = |point| if lattice.is_rim(point) { -5 } else { 5 };
+        let samples: Vec<i16> = (0..lattice.point_count()).map(sample).collect();
+        let cuts = cuts_where_needed(&lattice, &samples, |_, _| 128);
+        let block = Block {
+            sizes,
+            samples,
+            cuts,
+        };
+        let call = NodesCall::of_block(&mut Random::new(0), block, 0, 0);
+        assert!(call.state.iter().all(|&code| code == 0));
+        call
+    }
+
+    /// Points in use that are marked by damage keep their places, so the answer
+    /// is 0 unless a cut beside one is in use, and then it is 8.
+    #[test]
+    fn damage_marks_points_in_use_and_beside_cuts_in_use() {
+        let good = call_without_marks();
+        let mut random = Random::new(86);
+        let mut seen = [0; 10];
+        for _ in 0..10_000 {
+            let mut call = good.clone();
+            call.spoil_some_codes(&mut random);
+            if call.state.iter().all(|&code| code == 0 || code == ON_SKIN) {
+                let is_marked = call.state.contains(&ON_SKIN);
+                let number = call.run(nodes).numbered.number;
+                assert!(is_marked || number == refusal::NONE);
+                seen[number as usize] += usize::from(is_marked);
+            }
+        }
+        println!("{seen:?}");
+        assert!(seen[0] > 80 && seen[8] > 1_000 && seen[9] == 0, "{seen:?}");
     }
 }

@@ -1,9 +1,10 @@
 //! Filling a block, written for speed.
 //!
 //! Follows document 01, "Calls and refusals", and hands the work to the
-//! modules [`crate::bytes`] (labels, rim, cut bytes), [`crate::warp`] (moving
-//! points) and [`crate::emit`] (rows). Besides the lent tables it uses two
-//! buffers: N label bytes and, if there are cuts, N marks of four bytes.
+//! modules [`crate::bytes`] (labels, rim, cut bytes), [`crate::warp`] (state
+//! bytes, moving points) and [`crate::emit`] (rows). Besides the lent tables it
+//! uses two buffers: N label bytes and, if there are cuts, N marks of four
+//! bytes.
 //!
 //! The label bytes are read twice if there is a band (request F-3 of document
 //! 02): the raw signs for the rim and the cut bytes, then the labels. At band
@@ -26,7 +27,7 @@ pub struct Filled {
     pub number: u32,
     /// T, the rows written; after refusal 10 those a longer table would hold.
     pub rows: u64,
-    /// M, the non-zero state bytes.
+    /// M, the state bytes that are a move, 1 to 14.
     pub moved: u64,
     /// The place of refusals 5, 6 and 7; otherwise 0.
     pub place: u64,
@@ -47,7 +48,8 @@ impl Filled {
 /// Fills a block: writes the state table, then four ids a row into the row
 /// table, and leaves the entries behind the last row alone.
 ///
-/// A sample whose size is at most the band, 0 to 32767, has label zero.
+/// A sample whose size is at most the band, 0 to 32767, has label zero, and its
+/// point the state byte 15.
 ///
 /// Refusals come in the order 1, 14, 2 to 5, then the lowest byte that is a 6
 /// or a 7, then 10. Refusals 1 to 7 and 14 write nothing; after 10 the state

@@ -1,6 +1,6 @@
 //! An independent reference implementation of document 01, "Stuffing a
 //! scanned block with tetrahedra" (uniform isosurface stuffing), and of
-//! requests F-1 to F-7 of document 02, "Customer requests after the base".
+//! requests F-1 to F-8 of document 02, "Customer requests after the base".
 //!
 //! It was written from these documents, the paper that document 01 cites and
 //! IEEE 754 alone, to be compared with another implementation: in its answers
@@ -10,6 +10,7 @@
 //! |---|---|
 //! | [`lattice`] | points, numbers, directions, rim (plain arithmetic) |
 //! | [`cut`] | cut bytes, violation with its squared distance, codes, places of cuts |
+//! | [`state`] | state bytes: which are a move, and which is the mark of a point on the skin |
 //! | [`refusal`] | the refusals' numbers |
 //! | [`fill`] | filling a block with a band, written for speed |
 //! | [`strides`], [`mark`], [`bytes`], [`warp`], [`stencil`], [`emit`] | the steps of the fast filling |
@@ -25,12 +26,15 @@
 //! | [`random`], [`generate`], [`damage`], [`shapes`] | inputs for tests and timing: blocks, bands, calls |
 //!
 //! The fast filling and the plain one share the counts of points, the seven
-//! directions and the test of violation, which the given cases of document 01
-//! pin down; for the rest each has its own code, the labels too, which a band
-//! can make zero since request F-3. [`plain`] also keeps the choice that points
-//! made before request F-2, for comparison. The two mendings share the counts of
+//! directions, the test of violation and the number 15, which the given cases of
+//! document 01 and those of `tests/marks.rs` pin down; for the rest each has its
+//! own code, the labels too, which a band can make zero since request F-3, and
+//! which points have 15 since request F-8. [`plain`] also keeps the choice that
+//! points made before request F-2 and the state byte that unmoved points had
+//! before request F-8, for comparison. The two mendings share the counts of
 //! points and the seven directions only, and the two numberings of nodes the
-//! counts of points, the seven directions and the test of violation.
+//! counts of points, the seven directions, the test of violation and the number
+//! 15.
 
 #![forbid(unsafe_code)]
 #![warn(missing_docs)]
@@ -57,6 +61,7 @@ pub mod random;
 pub mod refusal;
 pub mod report;
 pub mod shapes;
+pub mod state;
 pub mod stencil;
 pub mod strides;
 pub mod warp;

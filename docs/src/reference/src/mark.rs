@@ -1,5 +1,6 @@
 //! Marks, for the fast filling: the nearest of the cuts that violate a point,
-//! as one number.
+//! as one number. Not to be mixed up with the mark of a point on the skin,
+//! which is a state byte ([`crate::state::ON_SKIN`]).
 //!
 //! A mark is the cut's squared distance times 16, plus the code that names it
 //! at the point. So the least of several marks is that of the nearest cut and,

@@ -2,7 +2,8 @@
 //!
 //! Follows request F-6 of document 02: each id in use gets a node, ascending,
 //! with its place, and the rows become node numbers. An id's place is that of
-//! document 01, "Calls and refusals".
+//! document 01, "Calls and refusals", and of request F-8: a point with state
+//! byte 15 has its own place, and the cuts beside it have none.
 //!
 //! Most of the time goes into two passes over the rows, so these do little. The
 //! first sets a byte for each entry's id, in a buffer of 8N bytes. Then each id
@@ -23,6 +24,7 @@ use crate::bytes::all_zero;
 use crate::cut::{violation, End};
 use crate::lattice::{Lattice, DIRECTIONS};
 use crate::refusal;
+use crate::state::{is_move, ON_SKIN};
 use crate::strides::{Grids, Line};
 
 /// The answer of writing the node table.
@@ -270,7 +272,7 @@ impl<'a> Tables<'a> {
     }
 
     /// Adds the nodes of points at the points' own places; answers those that
-    /// have moved.
+    /// have moved. A byte above 15 is not believable.
     fn add_points(&self, points: &[u32], nodes: &mut Vec<Node>, bad: &mut Vec<u32>) -> Vec<Moved> {
         let mut moved = Vec::new();
         self.walk(points, 0, 1, |line, points| {
@@ -282,20 +284,22 @@ impl<'a> Tables<'a> {
             nodes.extend(points.iter().map(node));
             for (n, &point) in points.iter().enumerate() {
                 let code = self.state[point as usize];
-                if code != 0 {
+                if is_move(code) {
                     let at = [at[0] + 2 * steps(point) as i32, at[1], at[2]];
                     match self.moved(first + n, point as usize, at, code) {
                         Some(node) => moved.push(node),
                         None => bad.push(point),
                     }
+                } else if code > ON_SKIN {
+                    bad.push(point);
                 }
             }
         });
         moved
     }
 
-    /// The node of a point with this code, unless the code is above 14 or its
-    /// edge does not exist.
+    /// The node of a point that moved by this code, unless its edge does not
+    /// exist.
     fn moved(&self, node: usize, point: usize, at: [i32; 3], code: u8) -> Option<Moved> {
         let (direction, sense, end) = match usize::from(code) {
             code @ 1..=7 => (code - 1, 1, End::Start),

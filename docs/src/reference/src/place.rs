@@ -1,11 +1,14 @@
 //! Measures of a block and the place of one id.
 //!
 //! Follows document 01, "Calls and refusals": measures can only be refused
-//! with 1, the place of an id with 1, 3, 4, 8, 9 in that order.
+//! with 1, the place of an id with 1, 3, 4, 8, 9 in that order; and request F-8
+//! of document 02: "Code 15 is believable, so 9 begins above 15. A cut with an
+//! end coded 15 is refused by 8."
 
 use crate::cut::{edge_of_code, place_of_cut, place_of_point, violation, Place};
 use crate::lattice::{Edge, Lattice};
 use crate::refusal;
+use crate::state::ON_SKIN;
 
 /// The answer of measures.
 #[derive(Clone, Copy, Debug, PartialEq, Eq)]
@@ -94,10 +97,12 @@ fn find_place(
     }
 }
 
-/// The place of a point, unless its state byte is not believable.
+/// The place of a point, unless its state byte is not believable: a move whose
+/// edge does not exist, has byte 0 or does not violate the point, or a byte
+/// above 15.
 fn point_place(lattice: &Lattice, cuts: &[u8], state: &[u8], point: usize) -> Option<Place> {
     let code = state[point];
-    if code == 0 {
+    if code == 0 || code == ON_SKIN {
         return Some(place_of_point(lattice, point));
     }
     let (edge, end) = edge_of_code(lattice, point, code)?;
@@ -106,7 +111,8 @@ fn point_place(lattice: &Lattice, cuts: &[u8], state: &[u8], point: usize) -> Op
 }
 
 /// The place of a cut, unless the edge does not exist, has byte 0 or has an
-/// end that moved.
+/// end with a state byte other than 0: one that moved, or lies on the skin
+/// unmoved, or has a byte that is not believable.
 fn cut_place(lattice: &Lattice, cuts: &[u8], state: &[u8], edge: Edge) -> Option<Place> {
     let end = lattice.end(edge.start, edge.direction)?;
     let t = cuts[edge.offset()];

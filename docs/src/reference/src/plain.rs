@@ -3,10 +3,10 @@
 //!
 //! Follows document 01, "The block", "Moving points", "Lattice tetrahedra and
 //! rows" and "Calls and refusals" in their order, and in "Moving points"
-//! requests F-2 and F-3 of document 02; for mending, request F-4; for the node
-//! table, request F-6. Every number is decoded, every tetrahedron listed, every
-//! corner sorted, every six-volume computed from the places of the moved points,
-//! every entry of a row table placed on its own.
+//! requests F-2, F-3 and F-8 of document 02; for mending, request F-4; for the
+//! node table, request F-6. Every number is decoded, every tetrahedron listed,
+//! every corner sorted, every six-volume computed from the places of the moved
+//! points, every entry of a row table placed on its own.
 
 use crate::cut::{edge_of_code, place_of_cut, place_of_point, six_volume, violation, Place};
 use crate::fill::Filled;
@@ -15,6 +15,7 @@ use crate::mend::Mended;
 use crate::nodes::Numbered;
 use crate::place::{place, Placed};
 use crate::refusal;
+use crate::state::{count_moves, ON_SKIN};
 use std::collections::BTreeSet;
 
 /// A corner in a row: a lattice point or the cut of an edge.
@@ -29,7 +30,8 @@ pub enum Corner {
 /// What moving the points leaves behind.
 #[derive(Clone, Debug, PartialEq, Eq)]
 pub struct Moved {
-    /// The state table: a code from 1 to 14, or 0 for a point that stayed.
+    /// The state table: a code from 1 to 14 for a point that moved, 15 for one
+    /// whose label is zero from the start, or 0 for any other.
     pub codes: Vec<u8>,
     /// The labels afterwards: 1 plus, -1 minus, 0 zero.
     pub labels: Vec<i16>,
@@ -79,7 +81,7 @@ pub fn fill(
     Filled {
         number: if fits { refusal::NONE } else { refusal::TABLE },
         rows: ids.len() as u64 / 4,
-        moved: moved.codes.iter().filter(|&&code| code != 0).count() as u64,
+        moved: count_moves(&moved.codes) as u64,
         place: 0,
     }
 }
@@ -153,22 +155,41 @@ pub fn first(violations: &[Violation]) -> Option<Violation> {
     violations.first().copied()
 }
 
-/// Takes the points once each, in ascending number, and moves each non-zero
-/// one that a live cut violates to the nearest such cut.
-pub fn move_points(lattice: &Lattice, band: u32, samples: &[i16], cuts: &[u8]) -> Moved {
-    move_points_by(nearest, lattice, band, samples, cuts)
+/// The state byte of a point that does not move, by its label at the outset.
+pub type Unmoved = fn(i16) -> u8;
+
+/// The byte of request F-8: 15 for "a point with label zero from the start".
+pub fn marked(label: i16) -> u8 {
+    match label {
+        0 => ON_SKIN,
+        _ => 0,
+    }
 }
 
-/// The same with any choice.
+/// The byte of document 01, before request F-8: "0 for a point that did not
+/// move", whatever its label. For comparison only.
+pub fn unmarked(_: i16) -> u8 {
+    0
+}
+
+/// Takes the points once each, in ascending number, and moves each non-zero
+/// one that a live cut violates to the nearest such cut. Points with label zero
+/// from the start are marked.
+pub fn move_points(lattice: &Lattice, band: u32, samples: &[i16], cuts: &[u8]) -> Moved {
+    move_points_by(nearest, marked, lattice, band, samples, cuts)
+}
+
+/// The same with any choice, and with any byte for the others.
 pub fn move_points_by(
     choice: Choice,
+    unmoved: Unmoved,
     lattice: &Lattice,
     band: u32,
     samples: &[i16],
     cuts: &[u8],
 ) -> Moved {
     let mut labels: Vec<i16> = samples.iter().map(|&s| label(band, s)).collect();
-    let mut codes = vec![0; labels.len()];
+    let mut codes: Vec<u8> = labels.iter().map(|&label| unmoved(label)).collect();
     for point in 0..labels.len() {
         if labels[point] == 0 {
             continue;
@@ -296,7 +317,8 @@ pub fn id_of(lattice: &Lattice, corner: Corner) -> u32 {
     }
 }
 
-/// The place of a corner, with the moved points.
+/// The place of a corner, with the moved points. Any other point is at its own
+/// place, be its byte 0 or 15.
 pub fn place_of(lattice: &Lattice, cuts: &[u8], codes: &[u8], corner: Corner) -> Place {
     match corner {
         Corner::Point(point) => match edge_of_code(lattice, point, codes[point]) {

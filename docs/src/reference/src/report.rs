@@ -22,7 +22,7 @@ pub const MOST_FILES: usize = 1_000_000;
 pub struct Volumes {
     /// T, the rows.
     pub rows: u64,
-    /// M, the moved points.
+    /// M, the moved points; those that lie on the skin unmoved are none.
     pub moved: u64,
     /// The sum of the rows' six-volumes.
     pub sum: i128,
@@ -137,6 +137,7 @@ mod tests {
     use crate::generate::{any_block, worn_block};
     use crate::plain;
     use crate::random::Random;
+    use crate::state::count_moves;
 
     fn text(input: &[u8]) -> String {
         String::from_utf8(report(input)).unwrap()
@@ -308,7 +309,7 @@ mod tests {
         six_volumes.sort();
         Ok(Volumes {
             rows: six_volumes.len() as u64,
-            moved: moved.codes.iter().filter(|&&code| code != 0).count() as u64,
+            moved: count_moves(&moved.codes) as u64,
             sum: six_volumes.iter().map(|&v| i128::from(v)).sum(),
             smallest: six_volumes.first().map_or(0, |&v| v.into()),
         })

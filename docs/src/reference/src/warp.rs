@@ -1,19 +1,25 @@
-//! Moving points (warping the lattice), for the fast filling.
+//! State bytes and moving points (warping the lattice), for the fast filling.
 //!
-//! Follows document 01, "Moving points", and requests F-2 and F-3 of document
-//! 02. A point's mark is the nearest of all cuts that violate it. "A cut byte
-//! beside a zero label is simply not live", be the label zero by the band or
-//! by a move, so the live cuts are some of these. A point without a mark is
-//! therefore not violated at its turn either, and the cut in a point's mark is
+//! Follows document 01, "Moving points", and requests F-2, F-3 and F-8 of
+//! document 02. A point's mark is the nearest of all cuts that violate it. "A
+//! cut byte beside a zero label is simply not live", be the label zero by the
+//! band or by a move, so the live cuts are some of these. A point without a mark
+//! is therefore not violated at its turn either, and the cut in a point's mark is
 //! the nearest live one if it is live.
+//!
+//! These marks are not what request F-8 calls to mark a point: its state byte is
+//! 15 then. Such bytes are written first, for all points with label zero from
+//! the start in one go, as no such point moves.
 
 use crate::bytes::ZERO;
 use crate::mark::{code_of_mark, MARKS, UNMARKED};
+use crate::state::ON_SKIN;
 use crate::strides::{Grids, Reach};
 
-/// Fills the state table with the codes of the moved points, sets their
-/// labels to zero and answers how many points moved. No marks at all means
-/// that no cut violates anything.
+/// Fills the state table: 15 where the label is zero from the start, a code
+/// where the point moves, and 0 elsewhere. Sets the labels of the points that
+/// move to zero and answers how many there are. No marks at all means that no
+/// cut violates anything.
 pub fn move_points(
     grids: &Grids,
     marks: &[u32],
@@ -21,7 +27,9 @@ pub fn move_points(
     cuts: &[u8],
     state: &mut [u8],
 ) -> usize {
-    state.fill(0);
+    for (code, &label) in state.iter_mut().zip(labels.iter()) {
+        *code = u8::from(label == ZERO) * ON_SKIN;
+    }
     if marks.is_empty() {
         return 0;
     }

@@ -16,9 +16,10 @@ use reference::generate::{any_band, any_block, crowded_block, flickering_block, 
 use reference::generate::{block, cuts_where_needed, Cutting, CUTTINGS, MIXES};
 use reference::lattice::{Edge, Lattice};
 use reference::place::{place, Placed};
-use reference::plain::{ids_of_rows, label, nearest, Moved, Violation};
+use reference::plain::{ids_of_rows, label, marked, nearest, Moved, Violation};
 use reference::random::Random;
 use reference::shapes;
+use reference::state::{is_move, ON_SKIN};
 use std::collections::{HashMap, HashSet};
 
 /// Whether a sample's size is at most the band, in this file's own words.
@@ -72,8 +73,8 @@ struct Seen {
     move_past_nearer: usize,
     /// Points outside the band that such bytes and no others violate.
     stay_by_the_band: usize,
-    /// Blocks with other state bytes, or another T, than at band 0.
-    other_state: usize,
+    /// Blocks with other moves, or another T, than at band 0.
+    other_moves: usize,
     other_rows: usize,
     /// Blocks with rows at band 0 and none at this band.
     emptied: usize,
@@ -83,7 +84,7 @@ struct Seen {
 
 impl Seen {
     /// Both fillings agree, the result is that of the block without its noise,
-    /// in-band points have state byte 0, and demand 3 holds.
+    /// in-band points and no others have state byte 15, and demand 3 holds.
     fn check(&mut self, block: Block, band: u32, random: &mut Random) {
         let mut call = Call::good(block, band, 0);
         let outcome = check_valid(&mut call, random);
@@ -92,7 +93,7 @@ impl Seen {
         assert_eq!(outcome.filled, quiet.filled);
         assert_eq!((&outcome.state, &outcome.rows), (&quiet.state, &quiet.rows));
         for (&sample, &code) in block.samples.iter().zip(&outcome.state) {
-            assert!(code == 0 || !in_band(band, sample));
+            assert_eq!(code == ON_SKIN, in_band(band, sample));
         }
         let faces = check_mesh(&block, band, &outcome.state, &outcome.rows);
         let faces = faces.unwrap_or_else(|fault| panic!("block {}: {fault}", self.blocks));
@@ -156,10 +157,16 @@ impl Seen {
     fn compare_with_band_0(&mut self, block: &Block, outcome: &Outcome) {
         let at_0 = fill_block(block, 0);
         let (rows_at_0, rows) = (at_0.filled.rows, outcome.filled.rows);
-        self.other_state += usize::from(at_0.state != outcome.state);
+        self.other_moves += usize::from(moves_of(&at_0.state) != moves_of(&outcome.state));
         self.other_rows += usize::from(rows_at_0 != rows);
         self.emptied += usize::from(rows_at_0 > 0 && rows == 0);
     }
+}
+
+/// The state bytes that are a move, and 0 for the others.
+fn moves_of(state: &[u8]) -> Vec<u8> {
+    let move_or_0 = |&code: &u8| if is_move(code) { code } else { 0 };
+    state.iter().map(move_or_0).collect()
 }
 
 /// A cut that violates a point by its byte.
@@ -248,7 +255,7 @@ fn wide_bands_on_flickering_blocks() {
     assert!(seen.move_past_nearer > 1_200, "{seen:?}");
     assert!(seen.stay_by_the_band > 6_000, "{seen:?}");
     assert!(
-        seen.other_state > 2_500 && seen.other_rows > 1_500,
+        seen.other_moves > 2_500 && seen.other_rows > 1_500,
         "{seen:?}"
     );
     assert!(
@@ -329,11 +336,11 @@ fn refusals_do_not_depend_on_the_band() {
 }
 
 /// Moving points as it was before the request: a point's label is its sample's
-/// sign. The rest is as in the plain filling.
+/// sign. The rest is as in the plain filling, the marks of request F-8 too.
 fn moved_before(block: &Block) -> Moved {
     let lattice = block.lattice().unwrap();
     let mut labels: Vec<i16> = block.samples.iter().map(|s| s.signum()).collect();
-    let mut codes = vec![0; labels.len()];
+    let mut codes: Vec<u8> = labels.iter().map(|&label| marked(label)).collect();
     for point in 0..labels.len() {
         let mut violations = Vec::new();
         for code in 1..=14 {
@@ -462,7 +469,7 @@ fn the_given_case() {
     for band in [5, 6, 32767] {
         let Outcome { filled, state, .. } = outcome(&block, band);
         assert_eq!((filled.number, filled.rows, filled.moved), (0, 0, 0));
-        assert_eq!(state, [0; 35]);
+        assert_eq!(state, [ON_SKIN; 35]);
     }
     let mut call = Call::good(block, 0, 0);
     for band in [32768, 32769, 65535, 65536, 1 << 31, u32::MAX] {
@@ -564,7 +571,7 @@ fn raw_samples_at_the_rim_and_beside_cuts() {
     }
     check_block_refused(&given(&[(26, 3), (27, 5)], &[]), 4, 5, 26);
     // A rim sample below zero and in the band.
-    assert_eq!(counts(&given(&[(27, -1)], &[]), 1, 27), (24, 0, 0));
+    assert_eq!(counts(&given(&[(27, -1)], &[]), 1, 27), (24, 0, ON_SKIN));
     // Point 13 above zero and outside the band, point 14 below and in it.
     for band in [2, 4, 5, 32767] {
         check_block_refused(&given(&[(14, -2)], &[(91, 0)]), band, 6, 91);
@@ -572,7 +579,7 @@ fn raw_samples_at_the_rim_and_beside_cuts() {
     for byte in [1, 63, 128, 255] {
         assert_eq!(
             counts(&given(&[(14, -2)], &[(91, byte)]), 2, 14),
-            (24, 0, 0)
+            (24, 0, ON_SKIN)
         );
     }
     // Both in the band.
@@ -582,7 +589,8 @@ fn raw_samples_at_the_rim_and_beside_cuts() {
         check_block_refused(&given(&[(14, 0)], &[]), band, 7, 91);
     }
     check_block_refused(&given(&[], &[(0, 7)]), 5, 7, 0);
-    assert_eq!(counts(&given(&[(14, 0)], &[(91, 0)]), 0, 14), (24, 0, 0));
+    let raw_zero = given(&[(14, 0)], &[(91, 0)]);
+    assert_eq!(counts(&raw_zero, 0, 14), (24, 0, ON_SKIN));
 }
 
 /// "A cut byte beside a zero label is simply not live."
@@ -595,7 +603,7 @@ fn cuts_beside_the_band_are_not_live() {
     // .. or point 14, which is in the band itself ..
     let block = given(&[(14, -2)], &[(91, 193)]);
     assert_eq!(counts(&block, 1, 14), (24, 1, 8));
-    assert_eq!(counts(&block, 2, 14), (24, 0, 0));
+    assert_eq!(counts(&block, 2, 14), (24, 0, ON_SKIN));
     // .. or has its neighbour in it.
     let block = given(&[(13, 3)], &[(91, 193)]);
     assert_eq!(counts(&block, 2, 14), (24, 1, 8));
@@ -617,7 +625,8 @@ fn the_outermost_samples_at_the_largest_band() {
     // -32767 is zero and -32768 is not, but there is no plus either way.
     block.samples[13] = -32767;
     block.cuts.fill(0);
-    assert_eq!(counts(&block, 32767, 13), (0, 0, 0));
+    assert_eq!(counts(&block, 32767, 13), (0, 0, ON_SKIN));
+    assert_eq!(counts(&block, 32767, 14), (0, 0, 0));
 }
 
 /// "The face rule now counts an in-band point as lying on the skin."
@@ -636,8 +645,8 @@ fn the_face_rule() {
     }
 }
 
-/// The place call takes no band: the cut between a plus and an in-band point
-/// has a place, although no row holds it.
+/// The place call takes no band, but reads the state table: since request F-8
+/// the cut between a plus and an in-band point, which no row holds, is refused.
 #[test]
 fn the_place_of_a_cut_beside_the_band() {
     let block = given(&[(14, -2)], &[]);
@@ -645,7 +654,7 @@ fn the_place_of_a_cut_beside_the_band() {
     let id = 35 + 91;
     assert!(!rows.contains(&id) && rows.contains(&14));
     let Placed { number, x, y, z } = place(2, 2, 2, &block.cuts, &state, id);
-    assert_eq!((number, [x, y, z]), (0, [768, 512, 512]));
+    assert_eq!((number, [x, y, z]), (8, [0; 3]));
     let Placed { number, x, y, z } = place(2, 2, 2, &block.cuts, &state, 14);
     assert_eq!((number, [x, y, z]), (0, [1024, 512, 512]));
 }

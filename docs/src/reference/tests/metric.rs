@@ -9,6 +9,7 @@ use metric_inputs::*;
 use reference::block::Block;
 use reference::generate::any_block;
 use reference::random::Random;
+use reference::state::is_move;
 use std::num::FpCategory;
 
 #[test]
@@ -23,7 +24,8 @@ fn both_ways_agree_on_every_id() {
             let (number, _) = tables.place(id);
             found += usize::from(number == 0);
             refused += usize::from(number == 8);
-            moved += usize::from(tables.state.get(id as usize).is_some_and(|&code| code != 0));
+            let code = tables.state.get(id as usize);
+            moved += usize::from(code.is_some_and(|&code| is_move(code)));
             for &unit in &units {
                 let (number_mm, point) = tables.mm(id, unit);
                 assert_eq!(number_mm, number);
@@ -176,7 +178,8 @@ fn order_of_refusals() {
         (8, u32::MAX, given(|_| ())),
         (8, 35, given(|_| ())),
         (8, 35 + 91, given(|t| t.state[14] = 15)),
-        (9, 13, given(|t| t.state[13] = 15)),
+        (8, 35 + 91, given(|t| t.state[14] = 16)),
+        (9, 13, given(|t| t.state[13] = 16)),
         (9, 13, given(|t| t.state[13] = 1)),
     ];
     for (number, id, tables) in &cases {

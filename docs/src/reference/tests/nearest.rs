@@ -11,8 +11,9 @@ use reference::cut::{edge_of_code, place_of_cut, place_of_point};
 use reference::generate::{any_block, crowded_block, flickering_block, wide_band};
 use reference::lattice::Lattice;
 use reference::place::{place, Placed};
-use reference::plain::{first, ids_of_rows, move_points, move_points_by};
+use reference::plain::{first, ids_of_rows, marked, move_points, move_points_by};
 use reference::random::Random;
+use reference::state::ON_SKIN;
 
 /// A cut that violates a point: the code, whether it is live, and the squared
 /// distance between the two places.
@@ -86,7 +87,7 @@ impl Seen {
     fn check(&mut self, block: &Block, band: u32) {
         let lattice = block.lattice().unwrap();
         let (samples, cuts) = (&block.samples, &block.cuts);
-        let old = move_points_by(first, &lattice, band, samples, cuts);
+        let old = move_points_by(first, marked, &lattice, band, samples, cuts);
         let new = move_points(&lattice, band, samples, cuts);
         let mut labels: Vec<i16> = samples.iter().map(|&s| label(s, band)).collect();
         for point in 0..samples.len() {
@@ -97,7 +98,9 @@ impl Seen {
             let live: Vec<Violator> = all.iter().copied().filter(|v| v.live).collect();
             let (before, chosen) = (old.codes[point], new.codes[point]);
             if live.is_empty() {
-                assert_eq!((before, chosen), (0, 0), "point {point}");
+                let is_zero_at_the_outset = label(samples[point], band) == 0;
+                let stays = if is_zero_at_the_outset { ON_SKIN } else { 0 };
+                assert_eq!((before, chosen), (stays, stays), "point {point}");
                 continue;
             }
             assert_eq!(before, live[0].code, "point {point}");
@@ -218,7 +221,7 @@ fn check_codes(cuts: &[(u8, u8)], before: u8, now: u8) -> [u32; 3] {
     let block = with_cuts(cuts);
     let lattice = block.lattice().unwrap();
     let only_13 = |code: u8| -> Vec<u8> { (0..35).map(|p| u8::from(p == 13) * code).collect() };
-    let old = move_points_by(first, &lattice, 0, &block.samples, &block.cuts);
+    let old = move_points_by(first, marked, &lattice, 0, &block.samples, &block.cuts);
     assert_eq!(old.codes, only_13(before), "{cuts:?}");
     let new = move_points(&lattice, 0, &block.samples, &block.cuts);
     assert_eq!(new.codes, only_13(now), "{cuts:?}");

@@ -2,7 +2,8 @@
 //! call here, and both against the request's sentences: what is in the tables
 //! afterwards, which refusal comes first, and which entry it names. Which ids
 //! have a place, and where, is worked out once more in this file's own words from
-//! the coordinates of document 01.
+//! the coordinates of document 01, and from request F-8: a point with state byte
+//! 15 is at its own place, and the cuts beside it have none.
 
 use reference::block::Block;
 use reference::blockfile::fill_block;
@@ -26,11 +27,15 @@ enum Reason {
     NoEdge,
     /// The cut of an edge whose byte is 0.
     NoByte,
-    /// The start's state byte is not 0.
+    /// The start's state byte is not 0, and not 15.
     StartMoved,
-    /// The start's state byte is 0, the other end's is not.
+    /// The start's state byte is 0, the other end's is not, and not 15.
     EndMoved,
-    /// A state byte above 14.
+    /// The start's state byte is 15.
+    StartOnSkin,
+    /// The start's state byte is 0, the other end's is 15.
+    EndOnSkin,
+    /// A state byte above 15.
     NoCode,
     /// A code whose edge does not exist.
     NoEdgeOfCode,
@@ -102,7 +107,7 @@ impl Points {
     fn place_of_point(&self, cuts: &[u8], point: usize, code: u8) -> Result<[i64; 3], Reason> {
         let at = self.list[point];
         let (direction, is_start) = match usize::from(code) {
-            0 => return Ok(at.map(|c| 256 * c)),
+            0 | 15 => return Ok(at.map(|c| 256 * c)),
             code @ 1..=7 => (code - 1, true),
             code @ 8..=14 => (code - 8, false),
             _ => return Err(Reason::NoCode),
@@ -136,13 +141,13 @@ impl Points {
         }
         let end = self.numbers.get(&on(self.list[start], 1, direction));
         let &end = end.ok_or(Reason::NoEdge)?;
-        if state[start] != 0 {
-            return Err(Reason::StartMoved);
+        match [state[start], state[end]] {
+            [0, 0] => Ok(on(self.list[start].map(|c| 256 * c), t, direction)),
+            [0, 15] => Err(Reason::EndOnSkin),
+            [0, _] => Err(Reason::EndMoved),
+            [15, _] => Err(Reason::StartOnSkin),
+            _ => Err(Reason::StartMoved),
         }
-        if state[end] != 0 {
-            return Err(Reason::EndMoved);
-        }
-        Ok(on(self.list[start].map(|c| 256 * c), t, direction))
     }
 }
 
@@ -174,14 +179,14 @@ struct Seen {
     /// How often each answer.
     numbers: [usize; 16],
     /// How often each reason, in the order of [`Reason`].
-    reasons: [usize; 9],
+    reasons: [usize; 11],
     /// How often 8 and 9 named the first entry, the last one, and another.
     first: [usize; 2],
     last: [usize; 2],
     between: [usize; 2],
     /// Points among the nodes written, by their state bytes, and cuts, by their
     /// directions.
-    codes: [usize; 15],
+    codes: [usize; 16],
     directions: [usize; 7],
     /// Node tables that were exact and too long, with a node in them, and those
     /// too short by one number, by one node, and empty.
@@ -564,7 +569,7 @@ fn an_empty_row_table() {
 #[test]
 fn bad_ids_by_hand() {
     let rows = [13, 65, 235, 227, 13, 26, 0, 34];
-    // Point 2 with a code above 14 is refused with 9, and so is point 8 with code
+    // Point 2 with a code above 15 is refused with 9, and so is point 8 with code
     // 1, the edge of which leads out of the block. Ids 280 and up are too large;
     // id 35 is a cut with byte 0; id 59, 35+7*3+3, too; id 52, 35+7*2+3, belongs
     // to no edge and has a byte.
@@ -582,7 +587,7 @@ fn bad_ids_by_hand() {
             for (second, (other, _)) in (first..8).flat_map(|n| bad.map(|bad| (n, bad))) {
                 for length in [0, 27, 28, 40] {
                     let mut call = given_case(&rows, length);
-                    (call.state[2], call.state[8], call.cuts[17]) = (15, 1, 128);
+                    (call.state[2], call.state[8], call.cuts[17]) = (16, 1, 128);
                     call.rows[second] = other;
                     call.rows[first] = id;
                     let numbered = run_both(&call).numbered;
@@ -596,7 +601,7 @@ fn bad_ids_by_hand() {
 /// A state byte that is not 0 takes their places from the cuts beside it.
 #[test]
 fn cuts_beside_a_spoilt_point() {
-    for code in [15, 255, 1, 14] {
+    for code in [16, 255, 1, 14] {
         // No cut of the given case violates the middle, so no code is believable
         // there. The cuts end in it or start there.
         for (rows, number, place) in [
@@ -634,7 +639,7 @@ fn order_of_checks() {
             }
             if is_wrong(4) && point_is_bad {
                 call.rows[2] = 0;
-                call.state[0] = 15;
+                call.state[0] = 16;
             } else if is_wrong(4) {
                 call.rows[2] = 280;
             }

@@ -100,8 +100,9 @@ fn refusals_of_cuts() {
     let mut cuts = block.cuts.clone();
     cuts[7 * 2] = 128;
     assert_eq!(at(&cuts, &state, 35 + 7 * 2), refused(8));
-    // Either end moved, or has any other non-zero state byte.
-    for (point, code) in [(13, 1), (14, 8), (13, 200), (14, 15)] {
+    // Either end moved, lies on the skin unmoved, or has any other non-zero
+    // state byte.
+    for (point, code) in [(13, 1), (14, 8), (13, 15), (14, 15), (13, 200), (14, 16)] {
         state[point] = code;
         assert_eq!(at(&block.cuts, &state, id), refused(8));
         state[point] = 0;
@@ -122,8 +123,11 @@ fn refusals_of_codes() {
         // All cuts halfway: none violates point 13.
         assert_eq!(at(&block.cuts, code, 13), refused(9));
     }
-    assert_eq!(at(&block.cuts, 15, 13), refused(9));
-    assert_eq!(at(&block.cuts, 255, 13), refused(9));
+    // 15 is believable, and 9 begins above it.
+    assert_eq!(at(&block.cuts, 15, 13), found([512, 512, 512]));
+    for code in 16..=255 {
+        assert_eq!(at(&block.cuts, code, 13), refused(9));
+    }
     // Point 0 ends no edge; its edge in direction 0 has byte 0; point 2 is the
     // last of its line.
     assert_eq!(at(&block.cuts, 8, 0), refused(9));

@@ -3,7 +3,7 @@
 //! A point of rubber in the middle of 2 by 2 by 2 cubes, with the skin halfway along its fourteen edges:
 //!
 //! ```
-//! use yakuemi::{fill, measures, mend, nodes, place, place_mm, Mending, Refusal};
+//! use yakuemi::{fill, is_move, measures, mend, nodes, place, place_mm, Mending, Refusal, ON_SKIN};
 //!
 //! let sizes = [2, 2, 2];
 //! let n = measures(sizes)?.points as usize;
@@ -38,17 +38,20 @@
 //! rows.iter_mut().for_each(|corner| *corner = table[4 * *corner as usize]);
 //! assert_eq!(rows[..4], [13, 65, 235, 227]);
 //!
-//! // rows that are not whole; a number that is no id; a point whose state byte is no code
+//! // rows that are not whole; a number that is no id; a point whose state byte no filling writes
 //! assert_eq!(nodes(sizes, &cuts, &state, &mut rows[..95], &mut table), Err(Refusal::Rows));
 //! assert_eq!(nodes(sizes, &cuts, &state, &mut [13, 65, 280, 227], &mut table), Err(Refusal::CornerAt(2)));
-//! state[13] = 15;
+//! state[13] = 16;
 //! let refusal = nodes(sizes, &cuts, &state, &mut [0, 13, 280, 227], &mut table).unwrap_err();
 //! assert_eq!(refusal, Refusal::CodeAt(1));
 //! assert_eq!(refusal.to_string(), "refused 9 1");
 //!
-//! // in a band of 5 all these samples count as zero, and nothing is left to fill
+//! // in a band of 5 all these samples count as zero: nothing is left to fill, and every point lies on the skin unmoved
 //! let filling = fill(sizes, 5, &samples, &cuts, &mut state, &mut rows)?;
 //! assert_eq!((filling.rows, filling.moved), (0, 0));
+//! assert!(state.iter().all(|&byte| byte == ON_SKIN && !is_move(byte)));
+//! assert_eq!(place(sizes, &cuts, &state, 13)?, [512, 512, 512]);
+//! assert_eq!(place(sizes, &cuts, &state, 126), Err(Refusal::Corner));
 //! assert_eq!(fill(sizes, 32_768, &samples, &cuts, &mut state, &mut rows), Err(Refusal::Band));
 //!
 //! cuts[91] = 0;
@@ -395,12 +398,20 @@ pub struct Measures {
     pub tetrahedra: u64,
 }
 
+/// The state byte of a point that lies on the skin unmoved: its sample is in the band, or is zero.
+pub const ON_SKIN: u8 = 15;
+
+/// This state byte is a move, 1 to 14: its point moved onto a cut. After a filling a point lies on the skin exactly if its byte is not 0.
+pub fn is_move(byte: u8) -> bool {
+    (1..ON_SKIN).contains(&byte)
+}
+
 /// A filling: rows written and points moved.
 #[derive(Clone, Copy, Debug, PartialEq, Eq)]
 pub struct Filling {
     /// T, the rows written: the first 4T entries of the row table.
     pub rows: u64,
-    /// M, the points moved.
+    /// M, the points moved: the bytes of the state table that are moves ([`is_move`]).
     pub moved: u64,
 }
 
@@ -435,9 +446,9 @@ pub fn measures(sizes: [u32; 3]) -> Result<Measures, Refusal> {
 /// Fills a block: N samples, 7N cut bytes, N state bytes, and a row table of any length. Points that sit too near the skin move, each onto the
 /// nearest cut.
 ///
-/// The band is 0 to 32767. A sample whose size is at most the band counts as zero: its point lies on the skin and does not move, and no cut
-/// beside it is used. Take the largest size of the scanner's flicker, or 0 for none; with more, rubber whose samples are in the band is
-/// left out. Whether a block is refused for its rim or its cut bytes does not depend on the band.
+/// The band is 0 to 32767. A sample whose size is at most the band counts as zero: its point lies on the skin and does not move, its state
+/// byte is [`ON_SKIN`], and no cut beside it is used. Take the largest size of the scanner's flicker, or 0 for none; with more, rubber whose
+/// samples are in the band is left out. Whether a block is refused for its rim or its cut bytes does not depend on the band.
 pub fn fill(
     sizes: [u32; 3],
     band: u32,
@@ -479,7 +490,8 @@ pub fn mend(sizes: [u32; 3], samples: &[i16], cuts: &mut [u8]) -> Result<Mending
     }
 }
 
-/// The place of an id of a filled block, in 512ths of a cube's side.
+/// The place of an id of a filled block, in 512ths of a cube's side. A point that lies on the skin unmoved is in its own place, and a cut
+/// beside it has none.
 pub fn place(sizes: [u32; 3], cuts: &[u8], state: &[u8], id: u32) -> Result<[u32; 3], Refusal> {
     let p = raw::place(sizes, cuts, state, id);
     match p.number {

@@ -3,7 +3,7 @@ use native.Mathlib.Omega.{arith}
 use mathlib.Core.Path.{sym, ap, _∙_}
 use Rattle.lattice.proofs.Edge.{neighbour-lt}
 use Rattle.ground.proofs.Sites.{site-lt, site-near}
-use Rattle.warp.specs.inner.Quick.{liveAlong}
+use Rattle.warp.specs.inner.Quick.{openAlong}
 use borrow.Author.Needs.{needs}
 use Rattle.warp.proofs.moves.is_live_by.Statement.{statement}
 use Rattle.warp.proofs.moves.is_live_by.Tie as tie
@@ -29,22 +29,20 @@ is-live-requires c κs =
     let here = site-lt (a .s) (a .q) (pre .0) (more .1) in
     let leads = site-near (a .s) (a .q) (pre .0) (more .1) (a .code) ∙ sym (at-near .neighbour .ensures) ∙ far .1 in
     let there = neighbour-lt (a .s) (a .q .own) (a .code) (far .0 .0) here (more .0) leads in
-    let l = long .0 in
-    let n = long .1 in
-    ((omega arith, omega arith), (omega arith, omega arith))
+    (omega arith, omega arith)
 
 returns : tie.Need-returns
-unfolding liveAlong
+unfolding openAlong
 returns c =
     let at-near = c .before .before in
     let at-start = at-near .before .before in
     let a = at-start .args in
     let g = at-start .pre .1 .1 .1 in
     let leads = site-near (a .s) (a .q) (at-start .pre .0) g (a .code) ∙ sym (at-near .neighbour .ensures) ∙ c .enum-told .given .1 in
-    sym (ap (liveAlong _ _ _) leads)
+    sym (ap (openAlong _ _) leads)
 
 returns-2 : tie.Need-returns-2
-unfolding liveAlong
+unfolding openAlong
 returns-2 c =
     let at-near = c .before .before .before .before in
     let at-start = at-near .before .before in
@@ -52,7 +50,7 @@ returns-2 c =
     let g = at-start .pre .1 .1 .1 in
     let far = c .before .before .far .given in
     let leads = site-near (a .s) (a .q) (at-start .pre .0) g (a .code) ∙ sym (at-near .neighbour .ensures) ∙ far .1 in
-    c .is-live .ensures ∙ sym (ap (liveAlong _ _ _) leads)
+    c .is-live .ensures ∙ sym (ap (openAlong _ _) leads)
 
 pub is-live-by-spec : {M : Type 1} → statement M
 is-live-by-spec =

@@ -1,15 +1,18 @@
 -- The loop's invariant: the points before p have had their turns, and q starts the line at p. Assumes nothing.
-use Prim.Native.Nat.{ℕ, _-_}
+use Prim.Native.Nat.{_-_}
 use native.Mathlib.Omega.{arith}
 use mathlib.Core.Path.{refl, sym, ap, _∙_}
 use mathlib.Core.Logic.{⊎-elim}
-use lib.ListN.{length, replicate, length-replicate}
+use lib.ListN.{length}
 use borrow.Author.Tests.{not-false}
 use Rattle.lattice.proofs.Bounds.{points-small}
+use Rattle.moving.specs.Label.{labels}
 use Rattle.moving.specs.Block.{blockOf, readingOf}
 use Rattle.ground.proofs.Points.{points-some}
 use Rattle.ground.proofs.Lines.{line-own, line-first}
+use Rattle.warp.specs.inner.Quick.{outsetOf}
 use Rattle.warp.proofs.Turning.{
+  marked-long,
   Warped,
   warped-starts,
   warped-never,
@@ -33,21 +36,24 @@ Inv-loop s band samples cuts state₀ n q₀ moved₀ p₀ state q moved p = War
 abbrev μ-loop : tie.MeasureT-loop
 μ-loop s band samples cuts state₀ n q₀ moved₀ p₀ state q moved p = n - p
 
-clear-requires : tie.Need-clear-requires Inv-loop μ-loop
-clear-requires c κs = search needs
+mark-requires : tie.Need-mark-requires Inv-loop μ-loop
+mark-requires c κs =
+    let pre = c .before .before .before .pre in
+    (pre .1 .1, pre .0 .samples-long ∙ sym (pre .1 .0))
 
 is-blank-requires : tie.Need-is-blank-requires Inv-loop μ-loop
 is-blank-requires c κs = search needs
 
 same-length : tie.Need-same-length Inv-loop μ-loop
-same-length c = ap length (c .before .before .before .before .clear .ensures) ∙ length-replicate _ _
+same-length c = ap length (c .before .before .before .before .mark .ensures) ∙ marked-long _ _
 
 returns : tie.Need-returns Inv-loop μ-loop
 returns c =
-    let at-clear = c .before .before .before .before in
-    let at-start = at-clear .before .before .before .before in
-    let zeros = at-clear .clear .ensures ∙ ap (λ (n : ℕ). replicate n 0) (at-start .pre .1) in
-    warped-never _ zeros (λ o l u. c .before .is-blank .ensures (c .if1 .taken) o (omega arith) (omega arith))
+    let at-mark = c .before .before .before .before in
+    let at-start = at-mark .before .before .before .before in
+    let a = at-start .args in
+    let outset = at-mark .mark .ensures ∙ ap (outsetOf (labels (a .band) (a .samples .now))) (at-start .pre .1 .0) in
+    warped-never _ outset (λ o l u. c .before .is-blank .ensures (c .if1 .taken) o (omega arith) (omega arith))
 
 point-count-requires : tie.Need-point-count-requires Inv-loop μ-loop
 point-count-requires c κs = c .before .before .before .before .before .before .before .before .pre .0 .sized
@@ -59,10 +65,11 @@ locate-requires c κs =
 
 loop-holds : tie.Need-loop-holds Inv-loop μ-loop
 loop-holds c =
-    let at-clear = c .before .before .before .before .before .before in
-    let at-start = at-clear .before .before .before .before in
-    let zeros = at-clear .clear .ensures ∙ ap (λ (n : ℕ). replicate n 0) (at-start .pre .1) in
-    warped-starts _ zeros (line-first (at-start .pre .0 .sized) (c .locate .ensures))
+    let at-mark = c .before .before .before .before .before .before in
+    let at-start = at-mark .before .before .before .before in
+    let a = at-start .args in
+    let outset = at-mark .mark .ensures ∙ ap (outsetOf (labels (a .band) (a .samples .now))) (at-start .pre .1 .0) in
+    warped-starts _ outset (line-first (at-start .pre .0 .sized) (c .locate .ensures))
 
 is-bare-line-requires : tie.Need-is-bare-line-requires Inv-loop μ-loop
 is-bare-line-requires c κs =
@@ -156,7 +163,7 @@ same-length-2 : tie.Need-same-length-2 Inv-loop μ-loop
 same-length-2 c =
     let at-loop = c .before in
     let at-start = at-loop .before .before .before .before .before .before .before .before .before .before .before in
-    warped-long _ (at-loop .loop .inv) ∙ sym (at-start .pre .1)
+    warped-long _ (at-loop .loop .inv) ∙ sym (at-start .pre .1 .0)
 
 returns-2 : tie.Need-returns-2 Inv-loop μ-loop
 returns-2 c =
@@ -169,7 +176,7 @@ warp-spec =
     (tie.spec
     Inv-loop
     μ-loop
-    clear-requires
+    mark-requires
     is-blank-requires
     same-length
     returns

@@ -13,12 +13,10 @@ use Rattle.moving.specs.Nearest.{nearer}
 use Rattle.moving.specs.Reading.{violationBy}
 use Rattle.moving.specs.Moving.{choice}
 use Rattle.moving.specs.Block.{blockOf, readingOf}
-use Rattle.moving.proofs.Nearest.{nearest-le}
 use Rattle.moving.proofs.Moved.{stateAt-long}
 use Rattle.ground.proofs.Points.{sited}
 use Rattle.ground.proofs.Lines.{line-stands, line-fits}
 use Rattle.ground.proofs.Sites.{along-sited, along-own}
-use Rattle.warp.specs.inner.Quick.{byByte}
 use Rattle.warp.proofs.Counted.{counted-few}
 use Rattle.warp.proofs.Searching.{
   Searching,
@@ -39,6 +37,7 @@ use Rattle.warp.proofs.Turning.{
   walked-starts,
   walked-long,
   walked-inside,
+  walked-reached,
   walked-rests,
   walked-moves,
   walked-whole,
@@ -102,25 +101,28 @@ is-dead-requires c κs =
     let at-start = at-length .before .before .before in
     let block = at-start .pre .0 in
     let len = at-length .line-length .ensures .0 in
-    let few = nearest-le (byByte (at-start .args .cuts .now) (c .before .before .offsets .result)) 14 in
     let here = along-sited (at-start .pre .1 .0) (omega arith) (at-along .along .ensures) in
-    let long = walked-long _ (at-loop .loop .inv) (at-along .before .loop-test .taken) in
-    (block .sized, ((block .samples-long, long), (omega (arith, c .before .nearest-byte .ensures), here)))
+    (block .sized, (walked-long _ (at-loop .loop .inv) (at-along .before .loop-test .taken), here))
 
 loop2-holds : tie.Need-loop2-holds Inv-loop2 μ-loop2 Inv-loop μ-loop
 loop2-holds c =
     let at-near = c .before .before .before in
     let at-offsets = at-near .before in
     let at-along = at-offsets .before in
-    let at-length = at-along .before .before .before in
+    let at-loop = at-along .before .before in
+    let at-length = at-loop .before in
     let at-start = at-length .before .before .before in
     let a = at-start .args in
     let m = readingOf (a .band) (blockOf (a .s) (a .samples .now) (a .cuts .now)) in
+    let sized = at-start .pre .0 .sized in
     let line = at-start .pre .1 .0 in
     let len = at-length .line-length .ensures .0 in
+    let fits = line-fits line sized in
+    let inside = at-along .before .loop-test .taken in
+    let reached = walked-reached m (at-loop .loop .inv) inside (omega arith) in
     let own = along-own line (omega arith) (at-along .along .ensures) in
     let here = along-sited line (omega arith) (at-along .along .ensures) in
-    let guess = guess-at m _ _ _ refl own (at-start .pre .0 .sized) here (at-offsets .offsets .ensures) (at-near .nearest-byte .ensures) in
+    let guess = guess-at m reached _ _ refl own (omega arith) sized here (at-offsets .offsets .ensures) (at-near .nearest-byte .ensures) in
     ⊎-elim (λ w. search-starts (w .1) (w .2))
     (λ w. search-whole (w .1 ∙ guess (sym (c .before .is-dead .ensures) ∙ w .0 .left)) (w .2)) (c .if1 .came)
 
@@ -155,8 +157,7 @@ is-live-by-requires c κs =
     let inside = at-test .loop2-test .taken in
     let code : Code (at-search .loop2 .code) = record { low = at-search .loop2 .inv .low; high = omega arith } in
     let here = along-sited (at-start .pre .1 .0) (omega arith) (at-along .along .ensures) in
-    let long = walked-long _ (at-loop .loop .inv) (at-along .before .loop-test .taken) in
-    (block .sized, ((block .samples-long, long), (code, here)))
+    (block .sized, (walked-long _ (at-loop .loop .inv) (at-along .before .loop-test .taken), (code, here)))
 
 add-code : tie.Need-add-code Inv-loop2 μ-loop2 Inv-loop μ-loop
 add-code c = omega arith
@@ -170,38 +171,48 @@ loop2-again c =
     let at-search = at-cut .before .before .before in
     let at-offsets = at-search .before .before .before .before .before in
     let at-along = at-offsets .before in
-    let at-length = at-along .before .before .before in
+    let at-loop = at-along .before .before in
+    let at-length = at-loop .before in
     let at-start = at-length .before .before .before in
     let a = at-start .args in
     let m = readingOf (a .band) (blockOf (a .s) (a .samples .now) (a .cuts .now)) in
+    let sized = at-start .pre .0 .sized in
     let line = at-start .pre .1 .0 in
     let len = at-length .line-length .ensures .0 in
+    let fits = line-fits line sized in
+    let inside = at-along .before .loop-test .taken in
+    let reached = walked-reached m (at-loop .loop .inv) inside (omega arith) in
     let i = at-search .loop2 .inv in
     let k = at-search .loop2 .code in
     let l : k ≤ 14 = omega arith in
     let own = along-own line (omega arith) (at-along .along .ensures) in
     let here = along-sited line (omega arith) (at-along .along .ensures) in
     let code : Code k = record { low = i .low; high = l } in
-    let byte = offset-byte m _ _ own (at-start .pre .0 .sized) here (at-offsets .offsets .ensures) code (at-cut .cut-at .ensures) in
+    let byte = offset-byte m _ _ own sized here (at-offsets .offsets .ensures) code (at-cut .cut-at .ensures) in
     let is = c .before .before .violation .ensures in
     let asked = sym (c .before .is-nearer .ensures) in
     ⊎-elim
     (λ w.
-    let live = live-at m _ k own (sym (w .2 .ensures) ∙ w .3 .taken) in
+    let live = live-at m reached k code own (omega arith) (sym (w .2 .ensures) ∙ w .3 .taken) in
     search-nearer i l (is ∙ sym (by-byte m _ _ k byte _ live)) (asked ∙ w .0 .taken) (w .4) (w .5))
     (⊎-elim
-    (λ w. search-keeps i l (when-dead m _ _ k byte _ (live-at m _ k own (sym (w .2 .ensures) ∙ w .3 .left))) (w .4) (w .5))
+    (λ w.
+    let dead = live-at m reached k code own (omega arith) (sym (w .2 .ensures) ∙ w .3 .left) in
+    search-keeps i l (when-dead m _ _ k byte _ dead) (w .4) (w .5))
     (λ w.
     let far = ap (λ (v : Violation). nearer v (at-search .loop2 .best)) (sym is) ∙ asked ∙ w .0 .left in
     search-keeps i l (by-far m _ _ k byte _ far) (w .1) (w .2)))
     (c .if2 .came)
 
+is-move-requires : tie.Need-is-move-requires Inv-loop2 μ-loop2 Inv-loop μ-loop
+is-move-requires c κs = search needs
+
 cast-state : tie.Need-cast-state Inv-loop2 μ-loop2 Inv-loop μ-loop
-cast-state c = omega (arith, search-few (c .before .before .before .loop2 .inv))
+cast-state c = omega (arith, search-few (c .before .before .before .before .loop2 .inv))
 
 slice-write-state : tie.Need-slice-write-state Inv-loop2 μ-loop2 Inv-loop μ-loop
 slice-write-state c =
-    let at-search = c .before .before .before in
+    let at-search = c .before .before .before .before in
     let at-test = at-search .before .before .before .before .before .before .before in
     let at-loop = at-test .before in
     let at-length = at-loop .before in
@@ -212,7 +223,7 @@ slice-write-state c =
 
 add-moved : tie.Need-add-moved Inv-loop2 μ-loop2 Inv-loop μ-loop
 add-moved c =
-    let at-search = c .before .before .before in
+    let at-search = c .before .before .before .before in
     let at-test = at-search .before .before .before .before .before .before .before in
     let at-loop = at-test .before in
     let at-start = at-loop .before .before .before .before in
@@ -230,7 +241,7 @@ loop-less c = omega arith
 loop-again : tie.Need-loop-again Inv-loop2 μ-loop2 Inv-loop μ-loop
 unfolding choice
 loop-again c =
-    let at-search = c .before .before in
+    let at-search = c .before .before .before in
     let at-test = at-search .before .before .before .before .before .before .before in
     let at-loop = at-test .before in
     let at-length = at-loop .before in
@@ -239,9 +250,10 @@ loop-again c =
     let h = at-test .loop-test .taken in
     let i = at-loop .loop .inv in
     let fits = line-fits (at-start .pre .1 .0) (at-start .pre .0 .sized) in
-    let chosen = sym (search-ends (at-search .loop2 .inv) (c .before .loop2-test .left)) in
-    ⊎-elim (λ w. walked-moves _ i h (omega arith) chosen (w .0 .taken) (w .2) (w .3))
-    (λ w. walked-rests _ i h chosen (w .0 .left) (w .1) (w .2)) (c .if4 .came)
+    let chosen = sym (search-ends (at-search .loop2 .inv) (c .before .before .loop2-test .left)) in
+    let asked = sym (c .before .is-move .ensures) in
+    ⊎-elim (λ w. walked-moves _ i h (omega arith) chosen (asked ∙ w .0 .taken) (w .2) (w .3))
+    (λ w. walked-rests _ i h chosen (search-few (at-search .loop2 .inv)) (asked ∙ w .0 .left) (w .1) (w .2)) (c .if4 .came)
 
 same-length : tie.Need-same-length Inv-loop2 μ-loop2 Inv-loop μ-loop
 same-length c =
@@ -282,6 +294,7 @@ warp-line-spec =
     add-code
     loop2-less
     loop2-again
+    is-move-requires
     cast-state
     slice-write-state
     add-moved

@@ -1,10 +1,11 @@
-//! One call made with both fillings, for `tests/agreement.rs`, `tests/band.rs`
-//! and `tests/stray.rs`.
+//! One call made with both fillings, for `tests/agreement.rs`, `tests/band.rs`,
+//! `tests/marks.rs` and `tests/stray.rs`.
 
 use reference::damage::{Call, Outcome};
 use reference::fill::fill;
 use reference::plain;
 use reference::random::Random;
+use reference::state::{is_move, ON_SKIN};
 
 /// Makes the call with both fillings over the same noise.
 pub fn run_both(call: &Call, seed: u64) -> Outcome {
@@ -33,9 +34,9 @@ fn check_untouched(call: &Call, outcome: &Outcome, seed: u64) {
         }
     }
     if filled.number == 0 || filled.number == 10 {
-        let codes = outcome.state.iter().filter(|&&code| code != 0).count();
-        assert_eq!((filled.moved, filled.place), (codes as u64, 0));
-        assert!(outcome.state.iter().all(|&code| code <= 14));
+        let moves = outcome.state.iter().filter(|&&code| is_move(code)).count();
+        assert_eq!((filled.moved, filled.place), (moves as u64, 0));
+        assert!(outcome.state.iter().all(|&code| code <= ON_SKIN));
     }
 }
 
