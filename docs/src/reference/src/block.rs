@@ -47,4 +47,16 @@ impl Block {
             cuts,
         }
     }
+
+    /// The given case with other samples and bytes.
+    pub fn given_with(samples: &[(usize, i16)], bytes: &[(usize, u8)]) -> Block {
+        let mut block = Block::given_case();
+        for &(point, sample) in samples {
+            block.samples[point] = sample;
+        }
+        for &(offset, byte) in bytes {
+            block.cuts[offset] = byte;
+        }
+        block
+    }
 }

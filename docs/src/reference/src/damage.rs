@@ -624,23 +624,12 @@ fn shuffle(random: &mut Random, numbers: &mut [u32]) {
 #[cfg(test)]
 mod tests {
     use super::*;
-    use crate::generate::cuts_where_needed;
     use crate::nodes::nodes;
+    use crate::shapes::solid;
 
-    /// All rubber but the rim, halfway cuts, and no sample of zero: filling
-    /// leaves nothing but zeros in the state table.
+    /// Filling leaves nothing but zeros in the state table of the solid block.
     fn call_without_marks() -> NodesCall {
-        let sizes = [6; 3];
-        let lattice = Lattice::new(6, 6, 6).unwrap();
-        let sample = |point| if lattice.is_rim(point) { -5 } else { 5 };
-        let samples: Vec<i16> = (0..lattice.point_count()).map(sample).collect();
-        let cuts = cuts_where_needed(&lattice, &samples, |_, _| 128);
-        let block = Block {
-            sizes,
-            samples,
-            cuts,
-        };
-        let call = NodesCall::of_block(&mut Random::new(0), block, 0, 0);
+        let call = NodesCall::of_block(&mut Random::new(0), solid(), 0, 0);
         assert!(call.state.iter().all(|&code| code == 0));
         call
     }

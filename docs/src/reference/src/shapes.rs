@@ -98,6 +98,20 @@ fn rounded_max(a: f64, b: f64) -> f64 {
     -rounded_min(-a, -b)
 }
 
+/// All rubber but the rim, in 6 by 6 by 6 cubes, with all cuts halfway and no
+/// sample of zero: no point moves.
+pub fn solid() -> Block {
+    let lattice = Lattice::new(6, 6, 6).expect("allowed sizes");
+    let sample = |point| if lattice.is_rim(point) { -5 } else { 5 };
+    let samples: Vec<i16> = (0..lattice.point_count()).map(sample).collect();
+    let cuts = cuts_where_needed(&lattice, &samples, |_, _| 128);
+    Block {
+        sizes: [6; 3],
+        samples,
+        cuts,
+    }
+}
+
 /// A block from a distance, in cubes, that is above zero inside the part. The
 /// rim must lie outside it.
 fn from_distance(sizes: [u32; 3], distance: impl Fn([f64; 3]) -> f64) -> Block {

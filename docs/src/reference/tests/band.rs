@@ -427,18 +427,6 @@ fn labels_of_all_samples() {
     check_labels(32766, lowest);
 }
 
-/// The given case with other samples and bytes.
-fn given(samples: &[(usize, i16)], bytes: &[(usize, u8)]) -> Block {
-    let mut block = Block::given_case();
-    for &(point, sample) in samples {
-        block.samples[point] = sample;
-    }
-    for &(offset, byte) in bytes {
-        block.cuts[offset] = byte;
-    }
-    block
-}
-
 /// Both fillings of a small block, with no row behind the last.
 fn outcome(block: &Block, band: u32) -> Outcome {
     run_both(&Call::good(block.clone(), band, 0), 1)
@@ -567,29 +555,32 @@ fn order_of_checks() {
 fn raw_samples_at_the_rim_and_beside_cuts() {
     // A rim sample above zero, in the band or not; the lowest is named.
     for (sample, band) in [(1, 0), (1, 1), (3, 5), (32767, 32767), (5, 4)] {
-        check_block_refused(&given(&[(27, sample)], &[]), band, 5, 27);
+        check_block_refused(&Block::given_with(&[(27, sample)], &[]), band, 5, 27);
     }
-    check_block_refused(&given(&[(26, 3), (27, 5)], &[]), 4, 5, 26);
+    check_block_refused(&Block::given_with(&[(26, 3), (27, 5)], &[]), 4, 5, 26);
     // A rim sample below zero and in the band.
-    assert_eq!(counts(&given(&[(27, -1)], &[]), 1, 27), (24, 0, ON_SKIN));
+    assert_eq!(
+        counts(&Block::given_with(&[(27, -1)], &[]), 1, 27),
+        (24, 0, ON_SKIN)
+    );
     // Point 13 above zero and outside the band, point 14 below and in it.
     for band in [2, 4, 5, 32767] {
-        check_block_refused(&given(&[(14, -2)], &[(91, 0)]), band, 6, 91);
+        check_block_refused(&Block::given_with(&[(14, -2)], &[(91, 0)]), band, 6, 91);
     }
     for byte in [1, 63, 128, 255] {
         assert_eq!(
-            counts(&given(&[(14, -2)], &[(91, byte)]), 2, 14),
+            counts(&Block::given_with(&[(14, -2)], &[(91, byte)]), 2, 14),
             (24, 0, ON_SKIN)
         );
     }
     // Both in the band.
-    check_block_refused(&given(&[], &[(91, 0)]), 5, 6, 91);
+    check_block_refused(&Block::given_with(&[], &[(91, 0)]), 5, 6, 91);
     // A raw zero needs no cut and bears none, at any band.
     for band in [0, 2, 5] {
-        check_block_refused(&given(&[(14, 0)], &[]), band, 7, 91);
+        check_block_refused(&Block::given_with(&[(14, 0)], &[]), band, 7, 91);
     }
-    check_block_refused(&given(&[], &[(0, 7)]), 5, 7, 0);
-    let raw_zero = given(&[(14, 0)], &[(91, 0)]);
+    check_block_refused(&Block::given_with(&[], &[(0, 7)]), 5, 7, 0);
+    let raw_zero = Block::given_with(&[(14, 0)], &[(91, 0)]);
     assert_eq!(counts(&raw_zero, 0, 14), (24, 0, ON_SKIN));
 }
 
@@ -597,26 +588,26 @@ fn raw_samples_at_the_rim_and_beside_cuts() {
 #[test]
 fn cuts_beside_the_band_are_not_live() {
     // Byte 91 violates point 13 ..
-    let block = given(&[(14, -2)], &[(91, 63)]);
+    let block = Block::given_with(&[(14, -2)], &[(91, 63)]);
     assert_eq!(counts(&block, 1, 13), (0, 1, 1));
     assert_eq!(counts(&block, 2, 13), (24, 0, 0));
     // .. or point 14, which is in the band itself ..
-    let block = given(&[(14, -2)], &[(91, 193)]);
+    let block = Block::given_with(&[(14, -2)], &[(91, 193)]);
     assert_eq!(counts(&block, 1, 14), (24, 1, 8));
     assert_eq!(counts(&block, 2, 14), (24, 0, ON_SKIN));
     // .. or has its neighbour in it.
-    let block = given(&[(13, 3)], &[(91, 193)]);
+    let block = Block::given_with(&[(13, 3)], &[(91, 193)]);
     assert_eq!(counts(&block, 2, 14), (24, 1, 8));
     assert_eq!(counts(&block, 3, 14), (0, 0, 0));
     // The nearest cut (6,400) is beside the band, the next (33,075) is live.
-    let block = given(&[(14, -2)], &[(91, 40), (94, 105)]);
+    let block = Block::given_with(&[(14, -2)], &[(91, 40), (94, 105)]);
     assert_eq!(counts(&block, 1, 13), (0, 1, 1));
     assert_eq!(counts(&block, 2, 13), (0, 1, 4));
 }
 
 #[test]
 fn the_outermost_samples_at_the_largest_band() {
-    let mut block = given(&[], &[(91, 193)]);
+    let mut block = Block::given_with(&[], &[(91, 193)]);
     block.samples.fill(-32768);
     block.samples[13] = 32767;
     assert_eq!(counts(&block, 32766, 14), (24, 1, 8));
@@ -632,7 +623,7 @@ fn the_outermost_samples_at_the_largest_band() {
 /// "The face rule now counts an in-band point as lying on the skin."
 #[test]
 fn the_face_rule() {
-    let block = given(&[(14, -2)], &[]);
+    let block = Block::given_with(&[(14, -2)], &[]);
     let Outcome { state, rows, .. } = outcome(&block, 2);
     assert!(points_on_open_faces(&rows, 35).contains(&14));
     for band in [2, 3, 4] {
@@ -649,7 +640,7 @@ fn the_face_rule() {
 /// the cut between a plus and an in-band point, which no row holds, is refused.
 #[test]
 fn the_place_of_a_cut_beside_the_band() {
-    let block = given(&[(14, -2)], &[]);
+    let block = Block::given_with(&[(14, -2)], &[]);
     let Outcome { state, rows, .. } = outcome(&block, 2);
     let id = 35 + 91;
     assert!(!rows.contains(&id) && rows.contains(&14));
@@ -686,8 +677,8 @@ fn the_least_band_for_a_tenth() {
     check(&shapes::mount(), None);
     // Four points of 35, and three.
     let zeros = |count: usize| -> Vec<(usize, i16)> { (0..count).map(|p| (p, 0)).collect() };
-    check(&given(&zeros(4), &[]), Some(0));
-    check(&given(&zeros(3), &[]), Some(5));
+    check(&Block::given_with(&zeros(4), &[]), Some(0));
+    check(&Block::given_with(&zeros(3), &[]), Some(5));
     let sphere = fill_block(&shapes::sphere(), 655).filled;
     assert_eq!((sphere.rows, sphere.moved), (1_094_664, 0));
 }

@@ -12,7 +12,7 @@ use reference::cut::six_volume;
 use reference::damage::{Call, NodesCall, NodesOutcome, Outcome};
 use reference::fill::Filled;
 use reference::generate::{any_band, any_block, crowded_block, flickering_block, wide_band};
-use reference::generate::{block, cuts_where_needed, CUTTINGS, MIXES};
+use reference::generate::{block, CUTTINGS, MIXES};
 use reference::lattice::Lattice;
 use reference::metric::{place_mm, place_mm_plain};
 use reference::nodes::{nodes, Numbered};
@@ -268,31 +268,19 @@ fn on_larger_blocks() {
 fn refusals_mark_nothing() {
     // The given case's lowest cut byte is 30; without its plus point all of
     // them are stray.
-    let block = given(&[(13, 0)], &[]);
+    let block = Block::given_with(&[(13, 0)], &[]);
     for band in [0, 5] {
         let outcome = run_both(&Call::good(block.clone(), band, 96), 1);
         assert_eq!(outcome.filled, Filled::refused(7, 30));
     }
-    let rim = given(&[(26, 0), (27, 1)], &[]);
+    let rim = Block::given_with(&[(26, 0), (27, 1)], &[]);
     let outcome = run_both(&Call::good(rim, 0, 96), 2);
     assert_eq!(outcome.filled, Filled::refused(5, 27));
 }
 
-/// The given case with other samples and bytes.
-fn given(samples: &[(usize, i16)], bytes: &[(usize, u8)]) -> Block {
-    let mut block = Block::given_case();
-    for &(point, sample) in samples {
-        block.samples[point] = sample;
-    }
-    for &(offset, byte) in bytes {
-        block.cuts[offset] = byte;
-    }
-    block
-}
-
 /// The given case with sample 13 at 0, and so without cuts.
 fn without_rubber() -> Block {
-    let mut block = given(&[(13, 0)], &[]);
+    let mut block = Block::given_with(&[(13, 0)], &[]);
     block.cuts.fill(0);
     block
 }
@@ -300,7 +288,7 @@ fn without_rubber() -> Block {
 /// The given case with a rim sample of 0: point 27 is the first centre, at
 /// 1, 1, 1. Its edge to point 13 has direction 3 and byte 7*27+3, now 0.
 fn with_rim_zero() -> Block {
-    given(&[(27, 0)], &[(192, 0)])
+    Block::given_with(&[(27, 0)], &[(192, 0)])
 }
 
 /// Both fillings answer this T and M, and these points have these state bytes,
@@ -366,8 +354,8 @@ fn the_given_case_with_band_5() {
         }
     }
     // Byte 91 violates point 13, which does not move as it is in the band.
-    check_filled(&given(&[], &[(91, 63)]), 5, [0, 0], &all);
-    check_filled(&given(&[], &[(91, 63)]), 4, [0, 1], &[(13, 1)]);
+    check_filled(&Block::given_with(&[], &[(91, 63)]), 5, [0, 0], &all);
+    check_filled(&Block::given_with(&[], &[(91, 63)]), 4, [0, 1], &[(13, 1)]);
 }
 
 /// The first row is that of P1, with point 27 instead of the cut beside it, id
@@ -389,11 +377,11 @@ fn the_given_case_with_a_rim_sample_of_0() {
     let line = format!("1 24 0 {sum} 8388608\n24 {sum}\n");
     assert_eq!(report(&write(&block).unwrap()), line.into_bytes());
     // A corner on the rim: point 14 at 4, 2, 2, with byte 91 towards it.
-    let corner = given(&[(14, 0)], &[(91, 0)]);
+    let corner = Block::given_with(&[(14, 0)], &[(91, 0)]);
     let Outcome { state, .. } = check_filled(&corner, 0, [24, 0], &[(14, 15)]);
     assert_eq!(place_in(&corner, &state, 14), (0, [1024, 512, 512]));
     // Point 0, a corner of the block, has no cut either way.
-    let first = given(&[(0, 0)], &[]);
+    let first = Block::given_with(&[(0, 0)], &[]);
     let Outcome { state, .. } = check_filled(&first, 0, [24, 0], &[(0, 15)]);
     assert_eq!(place_in(&first, &state, 0), (0, [0; 3]));
     // The whole rim but for the middle's neighbours 14 and 34.
@@ -401,7 +389,7 @@ fn the_given_case_with_a_rim_sample_of_0() {
         .filter(|&point| ![13, 14].contains(&point))
         .collect();
     let samples: Vec<(usize, i16)> = rim.iter().map(|&point| (point, 0)).collect();
-    let mut block = given(&samples, &[]);
+    let mut block = Block::given_with(&samples, &[]);
     for offset in (0..245).filter(|offset| ![91, 94].contains(offset)) {
         block.cuts[offset] = 0;
     }
@@ -434,7 +422,7 @@ fn moved_and_marked_points_side_by_side() {
 /// -2 its byte stands at every band, and band 2 takes its place away.
 #[test]
 fn a_cut_beside_a_marked_point() {
-    let block = given(&[(14, -2)], &[]);
+    let block = Block::given_with(&[(14, -2)], &[]);
     let Outcome { state, rows, .. } = check_filled(&block, 1, [24, 0], &[]);
     assert_eq!(place_in(&block, &state, 126), (0, [768, 512, 512]));
     assert!(rows.contains(&126) && !rows.contains(&14));
@@ -570,7 +558,7 @@ fn in_mm(block: &Block, state: &[u8], id: u32, unit: f64) -> (u32, [f64; 3]) {
 /// from the corner each way and point 14 at 2, 1, 1.
 #[test]
 fn millimetres_of_marked_points() {
-    let block = given(&[(14, -2), (27, -2)], &[]);
+    let block = Block::given_with(&[(14, -2), (27, -2)], &[]);
     let Outcome { mut state, .. } = check_filled(&block, 2, [24, 0], &[(14, 15), (27, 15)]);
     let cube = 1.0 / 512.0;
     assert_eq!(in_mm(&block, &state, 27, cube), (0, [0.5; 3]));
@@ -598,16 +586,8 @@ fn millimetres_of_marked_points() {
 /// deep inside, with no cut beside it.
 #[test]
 fn the_skin_is_not_read_off_the_state_table() {
-    let sizes = [6; 3];
-    let lattice = Lattice::new(6, 6, 6).unwrap();
-    let sample = |point: usize| if lattice.is_rim(point) { -5 } else { 5 };
-    let samples: Vec<i16> = (0..lattice.point_count()).map(sample).collect();
-    let cuts = cuts_where_needed(&lattice, &samples, |_, _| 128);
-    let block = Block {
-        sizes,
-        samples,
-        cuts,
-    };
+    let block = shapes::solid();
+    let lattice = block.lattice().unwrap();
     let mut tables = fill_block(&block, 0);
     assert!(check_mesh(&block, 0, &tables.state, &tables.rows).is_ok());
     let inside = [[5, 5, 5], [7, 5, 5], [6, 4, 4], [6, 6, 4]];
