@@ -24,7 +24,7 @@ cat >"$prefix/lib/pkgconfig/yakuemi.pc" <<END
 prefix=$prefix
 Name: yakuemi
 Description: Fills scanned blocks with tetrahedra, proved
-Version: 0.3.0
+Version: 0.4.0
 Cflags: -I\${prefix}/include
 Libs: -L\${prefix}/lib -lyakuemi
 END

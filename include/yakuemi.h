@@ -12,22 +12,23 @@
  *
  *   samples   N      signed, one a point: above zero in rubber, below zero in air; on the skin if in the band, as zero always is
  *   cuts      7N     the edge from point p in direction d (0 to 6) has byte 7p+d: how many 256ths along from p the skin crosses it;
- *                    1 to 255 exactly where one end's sample is above zero and the other's below, whatever the band, else 0
+ *                    1 to 255 exactly where one end's sample is above zero and the other's below and neither is in the band, else 0
  *   state     N      written: 1 to 14 if the point moved, d+1 onto the cut of its edge in direction d, d+8 onto that of the edge that
  *                    leads to it in direction d; YAKUEMI_ON_SKIN, 15, if it is in the band: it lies on the skin unmoved; 0 for any
- *                    other. Points have their turns in ascending number; of the cuts too near it whose other end has not moved and
- *                    is not in the band a point takes the nearest, and of those as near the one with the lower byte here
+ *                    other. Points have their turns in ascending number; of the cuts too near it whose other end has not moved a
+ *                    point takes the nearest, and of those as near the one with the lower byte here
  *   rows      4T     written: the tetrahedra, four ids a row; an id is p for a point, N+7p+d for the cut of an edge. Between the ids
  *                    in use are holes; yakuemi_nodes makes node numbers of them, which have none
  *
  * A row a b c d has a positive volume: (b-a) x (c-a) . (d-a) is above zero, as VTK, Gmsh and Abaqus want it.
  *
- * The band. Scanners flicker: in plain air some samples come out a little above zero. So filling takes a band, a number from 0 to 32767,
- * and a sample whose size is at most the band counts as zero: its point is in the band and lies on the skin. (-32768 has size 32768 and
- * is in no band.) A point in the band never moves, and no cut beside it is used: none moves a point and none is in a row, as the skin
- * runs through the point itself. Take the largest size that the flicker has, 3 if it goes from -3 to 3; or 0 for none: then only zeros
- * are in the band. Too large a band spoils the part: rubber whose samples are in it is left out, so that thin walls vanish, and
- * elsewhere the skin is drawn from the cuts to lattice points.
+ * The band. Scanners flicker: in plain air some samples come out a little above zero. So filling and mending take a band, a number from
+ * 0 to 32767, and a sample whose size is at most the band counts as zero: its point is in the band and lies on the skin. (-32768 has size
+ * 32768 and is in no band.) A point in the band never moves, may stand on the rim, and has no cut beside it, as the skin runs through the
+ * point itself. The cut bytes of a scanner that knows of no band have some too many then: yakuemi_mend with the same band clears them.
+ * Take the largest size that the flicker has, 3 if it goes from -3 to 3; or 0 for none: then only zeros are in the band. Too large a band
+ * spoils the part: rubber whose samples are in it is left out, so that thin walls vanish, and elsewhere the skin is drawn to lattice
+ * points.
  *
  * So a corner of a row lies on the skin if it is a cut (an id of N or more), a point that moved (its state byte is 1 to 14) or a point in
  * the band (its state byte is 15): exactly if it is a cut or its state byte is not 0. A face that belongs to one row only has three such
@@ -61,8 +62,8 @@ enum yakuemi_number {
     YAKUEMI_SAMPLES = 2,  /* not N samples */
     YAKUEMI_CUTS = 3,     /* the cut table has not 7N bytes */
     YAKUEMI_STATE = 4,    /* the state table has not N bytes */
-    YAKUEMI_RIM = 5,      /* a rim point's sample is above zero: a corner on the block's outside, or the centre of an outer cube */
-    YAKUEMI_GAP = 6,      /* a cut byte is zero where one end's sample is above zero and the other's below */
+    YAKUEMI_RIM = 5,      /* a rim point's sample is above the band: a corner on the block's outside, or the centre of an outer cube */
+    YAKUEMI_GAP = 6,      /* a cut byte is zero where one end's sample is above zero and the other's below, neither in the band */
     YAKUEMI_STRAY = 7,    /* a cut byte is not zero where the ends' samples are not so, or where no edge is */
     YAKUEMI_CORNER = 8,   /* the id names no corner of a row */
     YAKUEMI_CODE = 9,     /* the point's state byte is not believable */
@@ -128,12 +129,12 @@ struct yakuemi_mended {
 };
 
 /*
- * Mends the cut table of an old scanner export, which lacks bytes or carries some too many, so that filling refuses it with neither 6
- * nor 7, at any band. It may still refuse the block for another reason: 4, 5, 10 or 14.
+ * Mends the cut table of an old scanner export, which lacks bytes or carries some too many, so that filling with the same band refuses it
+ * with neither 6 nor 7. It may still refuse the block for another reason: 4, 5 or 10.
  *
- *   missing    a byte that is zero where one end's sample is above zero and the other's below. It becomes 256 times the size of the
- *              sample at the edge's start, divided by the sum of both sizes, rounded to a whole number, half up, and held within 1 to
- *              255 (-32768 has size 32768)
+ *   missing    a byte that is zero where one end's sample is above zero and the other's below and neither is in the band. It becomes 256
+ *              times the size of the sample at the edge's start, divided by the sum of both sizes, rounded to a whole number, half up,
+ *              and held within 1 to 255 (-32768 has size 32768)
  *   stray      a byte that is not zero where the ends' samples are not so, or where no edge is. It becomes 0
  *   good       every other byte. It stays
  *
@@ -141,12 +142,12 @@ struct yakuemi_mended {
  * edge; this is proved). How near the skin it is nobody knows: it is a straight-line guess from two samples, so a scanner's own cut is
  * better.
  *
- * Lengths: N samples and 7N cuts. The samples are read as they are: there is no band here, and the rim is not looked at.
+ * Lengths: N samples and 7N cuts. The rim is not looked at. What a band cleared is gone: to fill with a smaller one, mend a copy.
  *
  * Answers 0 with both counts: so many bytes of the cut table were changed, and no other. A second call changes nothing and answers 0 with
- * both 0. Or, with both counts 0 and nothing written, the first of these that applies: 1, 2, 3.
+ * both 0. Or, with both counts 0 and nothing written, the first of these that applies: 1, 14, 2, 3.
  */
-struct yakuemi_mended yakuemi_mend(uint32_t nx, uint32_t ny, uint32_t nz,
+struct yakuemi_mended yakuemi_mend(uint32_t nx, uint32_t ny, uint32_t nz, uint32_t band,
                                    const int16_t *samples, size_t samples_len,
                                    uint8_t *cuts, size_t cuts_len);
 
@@ -173,8 +174,8 @@ struct yakuemi_filled {
  *   6 or 7     place: the offset of the lowest byte at fault   T, M 0             no table is written
  *   10         place 0                     T and M as with a longer table         state is written whole, rows stays as it was
  *
- * 5, 6 and 7 read the samples as they are, whatever the band: a sample above zero on the rim is refused even if it is in the band, and
- * so is a zero cut byte between samples of opposite signs. What 6 and 7 refuse yakuemi_mend puts right.
+ * The band comes first: a sample in it is zero to 5, 6 and 7 too. So rim points may be in the band, and a cut byte beside one must be 0:
+ * any other is a 7. What 6 and 7 refuse yakuemi_mend puts right, with the same band.
  *
  * To learn T, call it with a row table of length 0: the answer is 10 and says T (or 0, if T is 0). Or lend 12 times
  * the lattice tetrahedra, which always suffices.

@@ -5,6 +5,7 @@ pub mod Nearest
 pub mod Bands
 pub mod Mends
 pub mod Marks
+pub mod BandFirst
 pub mod Nodes
 pub mod Strays
 pub mod Result

@@ -7,7 +7,7 @@
 use Prim.Native.Nat.{ℕ, _+_, _*_, _-_, _/_, _%_, _≤_, _<_}
 use native.Mathlib.Nat.{le-mul-of-pos-right}
 use native.Mathlib.Omega.{arith}
-use mathlib.Core.Path.{_≡_, refl, ap, subst, _∙_}
+use mathlib.Core.Path.{_≡_, refl, ap, _∙_}
 use mathlib.Core.Bool.{Bool, false}
 use mathlib.Core.List.{List}
 use lib.IntN.{ℤ, pos}
@@ -21,8 +21,7 @@ use Rattle.lattice.specs.Counts.{Sized, grid}
 use Rattle.lattice.specs.inner.Site.{Sited}
 use Rattle.lattice.proofs.Sites.{by-direction}
 use Rattle.moving.specs.declared.Label.{Label}
-use Rattle.moving.specs.Label.{signs, labels}
-use Rattle.moving.proofs.Band.{labels-raw}
+use Rattle.moving.specs.Label.{labels}
 use Rattle.filling.specs.Check.{crosses, cutFault}
 use Rattle.ground.specs.inner.Blank.{Blank}
 use Rattle.ground.specs.inner.Lines.{Line, lineAt}
@@ -79,47 +78,43 @@ ends-on s q g x d i = go (q .kind) refl
         by-direction (λ d. getD (endsOf Centre s (lineAt q x)) d 0 ≡ getD (endsOf Centre s q) d 0 + x)
         (omega arith) (omega arith) (omega arith) (omega arith) (omega arith) (omega arith) (omega arith) d i
 
--- the points of index f on and before e in a line whose five ranges lack the sign, and whose bytes are all zero
-module _ {s : Sizes} {samples : List ℤ} {q : Site} (h : Sized s) (l : Line s (q .own) q) {plus : Bool} {starts : List ℕ} (f e : ℕ) {n : ℕ}
-    (v : Covers (q .own + f) (endsAt s (lineAt q f)) starts) (c : e ≤ f + n) (g : e ≤ grid s (q .kind) along-x)
-    (w : Level plus samples starts n) where
-  abbrev Unsigned : ℕ → Type 0
-  Unsigned p = hasLabel plus 0 (getD samples p (pos 0)) ≡ false
+-- the points of index f on and before e in a line whose five ranges lack the label, and whose bytes are all zero
+module _ {s : Sizes} {band : ℕ} {samples : List ℤ} {q : Site} (h : Sized s) (l : Line s (q .own) q) {plus : Bool} {starts : List ℕ}
+    (f e : ℕ) {n : ℕ} (v : Covers (q .own + f) (endsAt s (lineAt q f)) starts) (c : e ≤ f + n) (g : e ≤ grid s (q .kind) along-x)
+    (w : Level plus band samples starts n) where
+  abbrev Lacks : ℕ → Type 0
+  Lacks p = hasLabel plus band (getD samples p (pos 0)) ≡ false
 
   module _ (x : ℕ) (i : f ≤ x) (j : x < e) where
-    self-unsigned : Unsigned (q .own + x)
-    self-unsigned =
+    self-lacks : Lacks (q .own + x)
+    self-lacks =
         let p : q .own + x ≡ getD starts 0 0 + (x - f) = omega (arith, v .self) in
-        ap (λ (p : ℕ). hasLabel plus 0 (getD samples p (pos 0))) p ∙ w .none 0 (omega arith) (x - f) (omega arith)
+        ap (λ (p : ℕ). hasLabel plus band (getD samples p (pos 0))) p ∙ w .none 0 (omega arith) (x - f) (omega arith)
 
-    end-unsigned : (d : ℕ) → d < 7 → Unsigned (getD (endsAt s (lineAt q x)) d 0)
-    end-unsigned d k =
+    end-lacks : (d : ℕ) → d < 7 → Lacks (getD (endsAt s (lineAt q x)) d 0)
+    end-lacks d k =
         let r = v .each d k in
         let y = getD (endsAt s (lineAt q f)) d 0 - getD starts (r .range) 0 + (x - f) in
         let at-x = ends-on s q (sited (line-stands l)) x d k in
         let at-f = ends-on s q (sited (line-stands l)) f d k in
         let p : getD (endsAt s (lineAt q x)) d 0 ≡ getD starts (r .range) 0 + y = omega (arith, at-x, at-f, r .from) in
-        ap (λ (p : ℕ). hasLabel plus 0 (getD samples p (pos 0))) p ∙ w .none (r .range) (r .is-range) y (omega (arith, r .to))
+        ap (λ (p : ℕ). hasLabel plus band (getD samples p (pos 0))) p ∙ w .none (r .range) (r .is-range) y (omega (arith, r .to))
 
-    level-calm : Calm (signs samples) (q .own + x) (endsAt s (lineAt q x))
+    level-calm : Calm (labels band samples) (q .own + x) (endsAt s (lineAt q x))
     unfolding labels
-    level-calm =
-        subst (λ (label : ℕ → Label). Calm label (q .own + x) (endsAt s (lineAt q x))) (labels-raw samples) calm
-      where
-        calm : Calm (labels 0 samples) (q .own + x) (endsAt s (lineAt q x))
-        calm = record { none = λ d k. both-lack plus 0 _ _ self-unsigned (end-unsigned d k) }
+    level-calm = record { none = λ d k. both-lack plus band _ _ self-lacks (end-lacks d k) }
 
-    level-none : (d : ℕ) → d < 7 → crosses s (signs samples) (q .own + x) d ≡ false
+    level-none : (d : ℕ) → d < 7 → crosses s (labels band samples) (q .own + x) d ≡ false
     level-none = calm-none h (sited (line-at l x (omega arith))) level-calm
 
-  pub level-fine : (cuts : List ℕ) → Blank cuts (7 * (q .own + f)) (7 * (q .own + e)) → PartFine s (signs samples) cuts q f e
+  pub level-fine : (cuts : List ℕ) → Blank cuts (7 * (q .own + f)) (7 * (q .own + e)) → PartFine s (labels band samples) cuts q f e
   level-fine cuts z = record { is = at }
     where
-      at : (o : ℕ) → 7 * (q .own + f) ≤ o → o < 7 * (q .own + e) → cutFault s (signs samples) cuts o ≡ 0
+      at : (o : ℕ) → 7 * (q .own + f) ≤ o → o < 7 * (q .own + e) → cutFault s (labels band samples) cuts o ≡ 0
       at o a b =
           let p : o / 7 ≡ q .own + (o / 7 - q .own) = omega arith in
           let n = level-none (o / 7 - q .own) (omega arith) (omega arith) (o % 7) (omega arith) in
-          byte-fine s (signs samples) cuts o (ap (λ (p : ℕ). crosses s (signs samples) p (o % 7)) p ∙ n) (z o a b)
+          byte-fine s (labels band samples) cuts o (ap (λ (p : ℕ). crosses s (labels band samples) p (o % 7)) p ∙ n) (z o a b)
 
 -- where the five ranges start
 module _ (s : Sizes) (q : Site) where

@@ -1,4 +1,4 @@
--- Rim points above zero in a line of points. Assumes nothing.
+-- Rim points plus in a line of points. Assumes nothing.
 --     outer-fault                            all points of a line on the outside are on the rim
 --     inner-first, inner-last, inner-none    of any other line the two ends are
 use Prim.Native.Nat.{ℕ, _+_, _-_, _≤_, _<_}

@@ -15,35 +15,43 @@ ghost use lib.ListN.{length};
 ghost use Rattle.lattice.specs.Axis.{along-x};
 ghost use Rattle.lattice.specs.Counts.{grid};
 ghost use Rattle.moving.specs.Block.{blockOf, Tabled};
-ghost use Rattle.moving.specs.Label.{signs};
+ghost use Rattle.moving.specs.Label.{labels};
 ghost use Rattle.ground.specs.inner.Lines.{Line};
 ghost use Rattle.checks.specs.inner.Faults.{Asked, PointAnswered, PartAnswered, LineAnswered, RestAnswered, CutAnswer};
 
 // The first byte at fault of a point's seven, which are lent to it. Most points need only a glance.
-fn site_fault(s: Sizes, samples: &[i16], bytes: &[u8], q: Site) -> Fault
+fn site_fault(s: Sizes, band: u32, samples: &[i16], bytes: &[u8], q: Site) -> Fault
     requires { ⌜ Asked s (now samples) q ⌝ }
     requires { ⌜ length (now bytes) ≡ 7 ⌝ }
-    ensures { λ r. ⌜ PointAnswered s (signs (now (samples .entry))) (now (bytes .entry)) q r ⌝ }
+    ensures { λ r. ⌜ PointAnswered s (labels band (now (samples .entry))) (now (bytes .entry)) q r ⌝ }
 {
-    if quiet::is_quiet(s, samples, bytes, q) {
+    if quiet::is_quiet(s, band, samples, bytes, q) {
         return Fault::Fine;
     }
-    let must = crossing::crossings(s, samples, q);
+    let must = crossing::crossings(s, band, samples, q);
     seven::point_fault(bytes, must)
 }
 
 // The first byte at fault of some points of a line, from one on and before another, point by point.
-fn part_search(s: Sizes, samples: &[i16], cuts: &[u8], q: Site, from: usize, to: usize) -> Fault
+fn part_search(
+    s: Sizes,
+    band: u32,
+    samples: &[i16],
+    cuts: &[u8],
+    q: Site,
+    from: usize,
+    to: usize,
+) -> Fault
     requires { ⌜ Tabled (blockOf s (now samples) (now cuts)) ⌝ }
     requires { ⌜ Line s (q .own) q ⌝ }
     requires { ⌜ (from ≤ to) × (to ≤ grid s (q .kind) along-x) ⌝ }
-    ensures { λ r. ⌜ PartAnswered s (signs (now (samples .entry))) (now (cuts .entry)) q from to r ⌝ }
+    ensures { λ r. ⌜ PartAnswered s (labels band (now (samples .entry))) (now (cuts .entry)) q from to r ⌝ }
 {
     let own = q.own;
     for x in from..to {
         let a = 7 * (own + x);
         let e = a + 7;
-        let found = site_fault(s, samples, &cuts[a..e], walk::along(q, x));
+        let found = site_fault(s, band, samples, &cuts[a..e], walk::along(q, x));
         match found {
             Fault::Fine => {}
             Fault::Gap(d) => return Fault::Gap(a + d),
@@ -58,19 +66,19 @@ const PART: usize = 16;
 
 // The first byte at fault of a line of points from one on: some points at a glance, and one by one
 // only where that does not do.
-pub fn line_search(s: Sizes, samples: &[i16], cuts: &[u8], q: Site, from: usize) -> Fault
+pub fn line_search(s: Sizes, band: u32, samples: &[i16], cuts: &[u8], q: Site, from: usize) -> Fault
     requires { ⌜ Tabled (blockOf s (now samples) (now cuts)) ⌝ }
     requires { ⌜ Line s (q .own) q ⌝ }
     requires { ⌜ from ≤ grid s (q .kind) along-x ⌝ }
-    ensures { λ r. ⌜ RestAnswered s (signs (now (samples .entry))) (now (cuts .entry)) q from r ⌝ }
+    ensures { λ r. ⌜ RestAnswered s (labels band (now (samples .entry))) (now (cuts .entry)) q from r ⌝ }
 {
     let kind = q.kind;
     let m = walk::line_length(s, kind);
     let mut x = from;
     while x < m {
         let end = ranges::lesser(x + PART, m);
-        if !quiet::is_quiet_part(s, samples, cuts, q, x, end) {
-            let found = part_search(s, samples, cuts, q, x, end);
+        if !quiet::is_quiet_part(s, band, samples, cuts, q, x, end) {
+            let found = part_search(s, band, samples, cuts, q, x, end);
             match found {
                 Fault::Fine => {}
                 Fault::Gap(o) => return Fault::Gap(o),
@@ -83,26 +91,26 @@ pub fn line_search(s: Sizes, samples: &[i16], cuts: &[u8], q: Site, from: usize)
 }
 
 // The first byte at fault of a line. Many lines need only a glance.
-fn line_fault(s: Sizes, samples: &[i16], cuts: &[u8], q: Site) -> Fault
+fn line_fault(s: Sizes, band: u32, samples: &[i16], cuts: &[u8], q: Site) -> Fault
     requires { ⌜ Tabled (blockOf s (now samples) (now cuts)) ⌝ }
     requires { ⌜ Line s (q .own) q ⌝ }
-    ensures { λ r. ⌜ LineAnswered s (signs (now (samples .entry))) (now (cuts .entry)) q r ⌝ }
+    ensures { λ r. ⌜ LineAnswered s (labels band (now (samples .entry))) (now (cuts .entry)) q r ⌝ }
 {
-    if quiet::is_quiet_line(s, samples, cuts, q) {
+    if quiet::is_quiet_line(s, band, samples, cuts, q) {
         return Fault::Fine;
     }
-    line_search(s, samples, cuts, q, 0)
+    line_search(s, band, samples, cuts, q, 0)
 }
 
 // The lowest byte at fault.
-pub fn first_cut(s: Sizes, samples: &[i16], cuts: &[u8]) -> Fault
+pub fn first_cut(s: Sizes, band: u32, samples: &[i16], cuts: &[u8]) -> Fault
     requires { ⌜ Tabled (blockOf s (now samples) (now cuts)) ⌝ }
-    ensures { λ r. ⌜ CutAnswer s (signs (now (samples .entry))) (now (cuts .entry)) r ⌝ }
+    ensures { λ r. ⌜ CutAnswer s (labels band (now (samples .entry))) (now (cuts .entry)) r ⌝ }
 {
     let n = counts::point_count(s);
     let mut q = numbers::locate(s, 0);
     loop {
-        let found = line_fault(s, samples, cuts, q);
+        let found = line_fault(s, band, samples, cuts, q);
         match found {
             Fault::Fine => {}
             Fault::Gap(o) => return Fault::Gap(o),

@@ -1,4 +1,4 @@
-// What keeps a block from being filled: a rim point that is above zero, a cut byte that is missing
+// What keeps a block from being filled: a rim point that is plus, a cut byte that is missing
 // or too many.
 pub mod crossing;
 pub mod cuts;

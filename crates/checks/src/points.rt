@@ -1,27 +1,24 @@
-// Signs of points, read from their samples. The tests of rim and cut bytes read raw samples, whatever
-// the band: by the band 0 a label is the sample's own sign.
+// Labels of points by the band, read from their samples.
 use ground::label;
 ghost use mathlib.Core.Path.{_≡_};
 ghost use Prim.Native.Nat.{_<_, _≤_};
 ghost use lib.ListN.{length};
 ghost use Rattle.lattice.specs.inner.Site.{most};
-ghost use Rattle.moving.specs.Label.{signs, isPlus, opposed};
+ghost use Rattle.moving.specs.Label.{labels, isPlus, opposed};
 
-pub const RAW: u32 = 0;
-
-// A point is above zero.
-pub fn is_plus(samples: &[i16], p: usize) -> bool
+// A point is plus.
+pub fn is_plus(band: u32, samples: &[i16], p: usize) -> bool
     requires { ⌜ (p < length (now samples)) × (length (now samples) ≤ most) ⌝ }
-    ensures { λ r. ⌜ r ≡ isPlus (signs (now (samples .entry)) p) ⌝ }
+    ensures { λ r. ⌜ r ≡ isPlus (labels band (now (samples .entry)) p) ⌝ }
 {
-    label::is_plus(RAW, samples[p])
+    label::is_plus(band, samples[p])
 }
 
-// One of two points is above zero and the other is below.
-pub fn are_opposed(samples: &[i16], p: usize, q: usize) -> bool
+// One of two points is plus and the other is minus.
+pub fn are_opposed(band: u32, samples: &[i16], p: usize, q: usize) -> bool
     requires { ⌜ (p < length (now samples)) × (length (now samples) ≤ most) ⌝ }
     requires { ⌜ q < length (now samples) ⌝ }
-    ensures { λ r. ⌜ r ≡ opposed (signs (now (samples .entry)) p) (signs (now (samples .entry)) q) ⌝ }
+    ensures { λ r. ⌜ r ≡ opposed (labels band (now (samples .entry)) p) (labels band (now (samples .entry)) q) ⌝ }
 {
-    label::opposite(RAW, samples[p], samples[q])
+    label::opposite(band, samples[p], samples[q])
 }

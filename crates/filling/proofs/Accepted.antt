@@ -1,103 +1,41 @@
 -- What filling has checked where it answers 0 or 10, and where it answers 6 or 7; and what it answers for a block that passes: the law of
 -- acceptance. Assumes nothing.
-use Prim.Native.Nat.{ℕ, _*_, _/_, _%_, _≤_, _<_}
+use Prim.Native.Nat.{ℕ, _*_, _≤_, _<_}
 use native.Mathlib.Omega.{arith}
-use mathlib.Core.Path.{_≡_, refl, _∙_}
+use mathlib.Core.Path.{_≡_, refl, sym, ap, _∙_}
 use mathlib.Core.Logic.{_⊎_, inl, inr}
-use mathlib.Core.Bool.{Bool, true, false, not}
+use mathlib.Core.Bool.{false}
 use mathlib.Core.List.{List}
-use lib.ListN.{length, getD}
-use lib.Dec.{T, ltb, leb, eqb, T-not}
-use borrow.Author.Tests.{ltb-false, ltb-true, le-ltb, eqb-true, eq-eqb, not-false}
-use Rattle.basics.specs.Choice.{if_then_else_}
-use Rattle.basics.proofs.Test.{eqb-of, lt-or}
-use Rattle.basics.proofs.Search.{lowest-passes, lowest-none, none-lowest}
-use Rattle.lattice.specs.Counts.{sizesFit, points}
-use Rattle.lattice.proofs.Sized.{fits-sized, sized-fits}
-use Rattle.moving.proofs.Band.{fits-banded, banded-fits}
-use Rattle.lattice.specs.declared.Sizes.{Sizes}
+use lib.ListN.{length}
+use borrow.Author.Tests.{le-ltb, eq-eqb}
+use Rattle.basics.proofs.Search.{lowest-none, none-lowest}
+use Rattle.lattice.specs.Counts.{points}
+use Rattle.lattice.proofs.Sized.{sized-fits}
 use Rattle.moving.specs.declared.Label.{Label}
-use Rattle.moving.specs.Label.{signs, bandMost, bandFits}
-use Rattle.moving.specs.Reading.{Reading}
-use Rattle.moving.specs.Moving.{stateOf}
+use Rattle.moving.specs.Label.{labels, bandMost}
 use Rattle.moving.specs.Block.{Block, readingOf, Tabled}
-use Rattle.filling.specs.Mesh.{rowsWith}
-use Rattle.filling.specs.Check.{rimFault, crosses, cutFault, firstRim, firstCut, Accepted}
-use Rattle.filling.specs.Fill.{Outcome, refused, written, fill}
+use Rattle.moving.proofs.Band.{banded-fits}
+use Rattle.filling.specs.Check.{rimFault, cutFault, Accepted}
+use Rattle.filling.specs.Fill.{Outcome, written, fill}
+use Rattle.filling.proofs.Tests.{rimBy, cutBy, faulty, fine-so, so-fine}
+use Rattle.filling.proofs.Tests.{cutTests, Late, late, fill-is, not-five, cut-none, byte-named, cut-passed}
 
--- a cut byte's fault is 0, 6 or 7
-fault-le : (s : Sizes) (label : ℕ → Label) (cuts : List ℕ) (o : ℕ) → cutFault s label cuts o ≤ 7
-unfolding cutFault
-fault-le s label cuts o = go (crosses s label (o / 7) (o % 7)) (eqb (getD cuts o 0) 0)
-  where
-    go : (c z : Bool) → (if c then (if z then 6 else 0) else (if z then 0 else 7)) ≤ 7
-    go true true = omega arith
-    go true false = omega arith
-    go false true = omega arith
-    go false false = omega arith
+-- the labels of a block's points, and its first faults
+abbrev pub labelIn : ℕ → Block → ℕ → Label
+labelIn band b = labels band (b .samples)
 
--- the signs of a block's samples, and its first faults
-abbrev pub signIn : Block → ℕ → Label
-signIn b = signs (b .samples)
+abbrev pub faultIn : ℕ → Block → ℕ → ℕ
+faultIn band b = cutFault (b .sizes) (labelIn band b) (b .cuts)
 
-abbrev pub faultIn : Block → ℕ → ℕ
-faultIn b = cutFault (b .sizes) (signIn b) (b .cuts)
+abbrev pub rimOf : ℕ → Block → ℕ
+rimOf band b = rimBy b (labelIn band b)
 
-abbrev pub rimOf : Block → ℕ
-rimOf b = firstRim (b .sizes) (signIn b)
-
-abbrev pub cutOf : Block → ℕ
-cutOf b = firstCut (b .sizes) (signIn b) (b .cuts)
-
-faulty : Block → ℕ → Bool
-faulty b o = not (eqb (faultIn b o) 0)
+abbrev pub cutOf : ℕ → Block → ℕ
+cutOf band b = cutBy b (labelIn band b)
 
 module _ (band : ℕ) (b : Block) (state rows : List ℕ) where
   abbrev n : ℕ
   n = points (b .sizes)
-
-  -- an answer that is not this refusal's number comes from what is tested after it
-  passed : (t : Bool) (n at : ℕ) (more : Outcome) (m : ℕ) → (t ≡ true → n ≡ m → ⊥)
-      → (if t then refused state rows n at else more) .answer .number ≡ m
-      → (t ≡ false) × ((if t then refused state rows n at else more) ≡ more) × (more .answer .number ≡ m)
-  passed true n at more m h e = absurd (h refl e)
-  passed false n at more m h e = (refl, refl, e)
-
-  -- the test of the cut bytes, and what is written after it
-  abbrev last : Outcome
-  last = if ltb (cutOf b) (7 * n) then refused state rows (faultIn b (cutOf b)) (cutOf b) else written state rows (readingOf band b)
-
-  -- every test before that of the cut bytes is passed
-  record Early (m : ℕ) : Type 0 where
-    banded : band ≤ bandMost
-    tabled : Tabled b
-    state-long : length state ≡ n
-    rim-fine : (p : ℕ) → p < n → rimFault (b .sizes) (signIn b) p ≡ false
-    is : fill band b state rows ≡ last
-    number : last .answer .number ≡ m
-
-  -- so it is where the answer is none of 1 to 5, and not 14
-  early : (m : ℕ) → ((k : ℕ) → 0 < k → k < 6 → k ≡ m → ⊥) → (14 ≡ m → ⊥) → fill band b state rows .answer .number ≡ m → Early m
-  unfolding fill faulty
-  early m other not-banded e =
-      let s1 = passed (not (sizesFit (b .sizes))) 1 0 _ m (λ t. other 1 (omega arith) (omega arith)) e in
-      let s14 = passed (not (bandFits band)) 14 0 _ m (λ t. not-banded) (s1 .2) in
-      let s2 = passed (not (eqb (length (b .samples)) n)) 2 0 _ m (λ t. other 2 (omega arith) (omega arith)) (s14 .2) in
-      let s3 = passed (not (eqb (length (b .cuts)) (7 * n))) 3 0 _ m (λ t. other 3 (omega arith) (omega arith)) (s2 .2) in
-      let s4 = passed (not (eqb (length state) n)) 4 0 _ m (λ t. other 4 (omega arith) (omega arith)) (s3 .2) in
-      let s5 = passed (ltb (rimOf b) n) 5 (rimOf b) _ m (λ t. other 5 (omega arith) (omega arith)) (s4 .2) in
-      record {
-        banded = fits-banded band (not-false _ (s14 .0));
-        tabled = record {
-          sized = fits-sized (b .sizes) (not-false _ (s1 .0));
-          samples-long = eqb-true _ _ (not-false _ (s2 .0));
-          cuts-long = eqb-true _ _ (not-false _ (s3 .0));
-        };
-        state-long = eqb-true _ _ (not-false _ (s4 .0));
-        rim-fine = lowest-none (rimFault (b .sizes) (signIn b)) n (ltb-false _ _ (s5 .0));
-        is = s1 .1 ∙ s14 .1 ∙ s2 .1 ∙ s3 .1 ∙ s4 .1 ∙ s5 .1;
-        number = s5 .2;
-      }
 
   -- the block is accepted, the state table is long enough, and what filling gives is what it writes
   pub record Passed : Type 0 where
@@ -105,66 +43,45 @@ module _ (band : ℕ) (b : Block) (state rows : List ℕ) where
     pub state-long : length state ≡ points (b .sizes)
     pub is : fill band b state rows ≡ written state rows (readingOf band b)
 
+  -- an answer that comes after the tests of the rim
+  after-rim : (m : ℕ) → (m ≡ 0) ⊎ ((6 ≤ m) × (m ≤ 10)) → fill band b state rows .answer .number ≡ m
+      → Late band b state rows × (n ≤ rimOf band b) × (fill band b state rows ≡ cutTests band b state rows (labelIn band b))
+  after-rim m k e =
+      let number : Outcome → ℕ = λ o. o .answer .number in
+      let k' : (m ≡ 0) ⊎ ((5 ≤ m) × (m ≤ 10)) = elim k [ inl z ↦ inl z | inr (u, v) ↦ inr (omega arith, v) ] in
+      let w = late band b state rows _ m k' (ap number (sym (fill-is band b state rows)) ∙ e) in
+      let is = fill-is band b state rows ∙ w .is _ in
+      let five = not-five band b state rows (labelIn band b) m (λ f. elim k [ inl z ↦ omega arith | inr (u, v) ↦ omega arith ])
+      (sym (ap number is) ∙ e) in
+      (w, five .0, is ∙ five .1)
+
   pub passed-all : (m : ℕ) → (m ≡ 0) ⊎ (m ≡ 10) → fill band b state rows .answer .number ≡ m → Passed
-  unfolding faulty
   passed-all m k e =
-      let w = early m (λ n l u. not-early n l (omega arith)) (λ f. elim k [ inl z ↦ omega arith | inr z ↦ omega arith ]) e in
-      let s6 = passed (ltb (cutOf b) (7 * n)) (faultIn b (cutOf b)) (cutOf b) _ m not-cut (w .number) in
-      let no-cut = lowest-none (faulty b) (7 * n) (ltb-false _ _ (s6 .0)) in
+      let l = labelIn band b in
+      let (w, rim, is) = after-rim m (elim k [ inl z ↦ inl z | inr z ↦ inr (omega arith, omega arith) ]) e in
+      let clear = cut-passed band b state rows l m k (sym (ap (λ (o : Outcome). o .answer .number) is) ∙ e) in
       record {
         accepted = record {
           banded = w .banded;
           tabled = w .tabled;
-          rim-fine = w .rim-fine;
-          cuts-fine = λ o h. eqb-true _ _ (not-false _ (no-cut o h));
+          rim-fine = lowest-none (rimFault (b .sizes) l) n rim;
+          cuts-fine = λ o h. fine-so b l o (lowest-none (faulty b l) (7 * n) clear o h);
         };
         state-long = w .state-long;
-        is = w .is ∙ s6 .1;
+        is = is ∙ cut-none band b state rows l clear;
       }
-    where
-      not-early : (n : ℕ) → 0 < n → n < 10 → n ≡ m → ⊥
-      not-early n l u f = elim k [ inl z ↦ omega arith | inr z ↦ omega arith ]
 
-      some : (n : ℕ) → T (not (eqb n 0)) → 0 < n
-      some n t = elim (lt-or 0 n) [ inl l ↦ l | inr l ↦ absurd (T-not (eqb n 0) t (eqb-of n 0 (omega arith))) ]
-
-      not-cut : ltb (cutOf b) (7 * n) ≡ true → faultIn b (cutOf b) ≡ m → ⊥
-      not-cut t f =
-          let fault = faultIn b (cutOf b) in
-          let small = fault-le (b .sizes) (signIn b) (b .cuts) (cutOf b) in
-          not-early fault (some fault (lowest-passes (faulty b) (7 * n) (ltb-true _ _ t))) (omega (arith, small)) f
-
-  -- what is written is answered with 0 or with 10
-  written-ends : (r : Reading) → (written state rows r .answer .number ≡ 0) ⊎ (written state rows r .answer .number ≡ 10)
-  unfolding written
-  written-ends r = go (leb (4 * length (rowsWith r (stateOf r))) (length rows))
-    where
-      go : (t : Bool) → (_≡_ {A = ℕ} (if t then 0 else 10) 0) ⊎ (_≡_ {A = ℕ} (if t then 0 else 10) 10)
-      go true = inl refl
-      go false = inr refl
-
-  -- where filling answers 6 or 7, the tables have the right lengths and some byte is at fault
+  -- where filling answers 6 or 7, the band is taken, the tables have the right lengths and some byte is at fault
   pub faulted : (m : ℕ) → (m ≡ 6) ⊎ (m ≡ 7) → fill band b state rows .answer .number ≡ m
-      → Tabled b × ((o : ℕ) × (o < 7 * points (b .sizes)) × (faultIn b o ≡ m))
+      → (band ≤ bandMost) × Tabled b × ((o : ℕ) × (o < 7 * points (b .sizes)) × (faultIn band b o ≡ m))
   faulted m k e =
-      let w = early m (λ n l u f. elim k [ inl z ↦ omega arith | inr z ↦ omega arith ])
-      (λ f. elim k [ inl z ↦ omega arith | inr z ↦ omega arith ]) e in
-      (w .tabled, cut (ltb (cutOf b) (7 * n)) refl (w .number))
-    where
-      ends : (number : ℕ) → (number ≡ 0) ⊎ (number ≡ 10) → number ≡ m → ⊥
-      ends number (inl z) f = elim k [ inl y ↦ omega arith | inr y ↦ omega arith ]
-      ends number (inr z) f = elim k [ inl y ↦ omega arith | inr y ↦ omega arith ]
-
-      cut : (t : Bool) → ltb (cutOf b) (7 * n) ≡ t
-          → (if t then refused state rows (faultIn b (cutOf b)) (cutOf b) else written state rows (readingOf band b)) .answer .number ≡ m
-          → (o : ℕ) × (o < 7 * n) × (faultIn b o ≡ m)
-      cut true t f = (cutOf b, ltb-true _ _ t, f)
-      cut false t f =
-          absurd (ends (written state rows (readingOf band b) .answer .number) (written-ends (readingOf band b)) f)
+      let (w, rim, is) = after-rim m (inr (elim k [ inl z ↦ (omega arith, omega arith) | inr z ↦ (omega arith, omega arith) ])) e in
+      let named = byte-named band b state rows (labelIn band b) m k (sym (ap (λ (o : Outcome). o .answer .number) is) ∙ e) in
+      (w .banded, w .tabled, (cutOf band b, named .0, named .1))
 
   -- and the other way round: a block that passes is filled
   pub accepted-fills : Accepted band b → length state ≡ points (b .sizes) → fill band b state rows ≡ written state rows (readingOf band b)
-  unfolding fill faulty
+  unfolding fill
   accepted-fills h l =
       simp (
         sized-fits (b .sizes) (h .tabled .sized),
@@ -172,12 +89,12 @@ module _ (band : ℕ) (b : Block) (state rows : List ℕ) where
         eq-eqb _ _ (h .tabled .samples-long),
         eq-eqb _ _ (h .tabled .cuts-long),
         eq-eqb _ _ l,
-        le-ltb (rimOf b) n (omega (arith, none-lowest (rimFault (b .sizes) (signIn b)) n (h .rim-fine))),
-        le-ltb (cutOf b) (7 * n) (omega (arith, none-lowest (faulty b) (7 * n) fine)),
+        le-ltb (rimOf band b) n (omega (arith, none-lowest (rimFault (b .sizes) (labelIn band b)) n (h .rim-fine))),
+        le-ltb (cutOf band b) (7 * n) (omega (arith, none-lowest (faulty b (labelIn band b)) (7 * n) fine)),
       )
     where
-      fine : (o : ℕ) → o < 7 * n → faulty b o ≡ false
-      fine o u = rw (h .cuts-fine o u) refl
+      fine : (o : ℕ) → o < 7 * n → faulty b (labelIn band b) o ≡ false
+      fine o u = so-fine b (labelIn band b) o (h .cuts-fine o u)
 
 -- an answer 0 or 10 says that the block is accepted
 pub filled-accepted : (band : ℕ) (b : Block) (state rows : List ℕ) → fill band b state rows .answer .number ≡ 0 → Accepted band b

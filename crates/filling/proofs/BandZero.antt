@@ -10,11 +10,11 @@ use lib.ListN.{length}
 use lib.Dec.{ltb, eqb}
 use Rattle.basics.specs.Choice.{if_then_else_}
 use Rattle.lattice.specs.Counts.{sizesFit, points}
-use Rattle.moving.specs.Label.{signs, bandFits}
+use Rattle.moving.specs.Label.{bandFits}
 use Rattle.moving.specs.Violation.{rule1}
 use Rattle.moving.specs.Reading.{Reading}
-use Rattle.moving.specs.Block.{Block, readingOf}
-use Rattle.moving.proofs.Band.{labels-raw}
+use Rattle.moving.specs.Block.{Block}
+use Rattle.moving.proofs.Signs.{signs, labels-raw}
 use Rattle.filling.specs.Fill.{Outcome, refused, written, fill}
 use Rattle.filling.specs.Check.{cutFault, firstRim, firstCut}
 
@@ -36,10 +36,6 @@ fillBefore b state rows =
     else if ltb cut (7 * points s) then refuse (cutFault s label (b .cuts) cut) cut
     else written state rows (readingBefore b)
 
-reading-0 : (b : Block) → readingOf 0 b ≡ readingBefore b
-unfolding readingBefore
-reading-0 b = λ i. record { sizes = b .sizes; label = labels-raw (b .samples) i; cuts = b .cuts; rule = rule1 }
-
 pub band-0 : (b : Block) (state rows : List ℕ) → fill 0 b state rows ≡ fillBefore b state rows
-unfolding fill fillBefore bandFits
-band-0 b state rows = rw (reading-0 b) refl
+unfolding fill fillBefore readingBefore bandFits
+band-0 b state rows = rw (labels-raw (b .samples)) refl

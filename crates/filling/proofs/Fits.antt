@@ -13,10 +13,9 @@ use Rattle.lattice.specs.Direction.{asStart}
 use Rattle.lattice.specs.Edge.{neighbour, byteAt}
 use Rattle.lattice.specs.Rim.{rim}
 use Rattle.moving.specs.declared.Label.{Label}
-use Rattle.moving.specs.Label.{signs, labels, isPlus, opposed}
+use Rattle.moving.specs.Label.{labels, isPlus, opposed}
 use Rattle.moving.specs.Reading.{Reading}
 use Rattle.moving.specs.Block.{Block, readingOf}
-use Rattle.moving.proofs.Band.{plus-sign, opposed-signs}
 use Rattle.filling.specs.Check.{rimFault, crossesTo, cutFault, Accepted}
 
 -- no rim point is plus; an edge between a plus and a minus point has a byte
@@ -25,21 +24,20 @@ pub record Fits (m : Reading) : Type 0 where
   pub cut : (p d q : ℕ) → p < points (m .sizes) → d < 7 → neighbour (m .sizes) p (asStart d) ≡ At q
       → T (opposed (m .label p) (m .label q)) → 0 < getD (m .cuts) (byteAt p d) 0
 
--- what is plus by a band is above zero, and what is opposed by it is opposed: so the tests of raw samples are enough
+-- the tests of the rim and of the cut bytes read the labels that moving reads
 pub accepted-fits : (band : ℕ) (b : Block) → Accepted band b → Fits (readingOf band b)
-unfolding rimFault cutFault crossesTo signs labels
+unfolding rimFault cutFault crossesTo
 accepted-fits band b h =
     record {
-      no-plus = λ p l t u.
-          false-F (rimFault (b .sizes) raw p) (h .rim-fine p l) (&&-i (rim (b .sizes) p) (isPlus (raw p)) t (plus-sign band _ u));
-      cut = λ p d q l u to t. some-byte p d q l u to (opposed-signs band _ _ t);
+      no-plus = λ p l t u. false-F (rimFault (b .sizes) label p) (h .rim-fine p l) (&&-i (rim (b .sizes) p) (isPlus (label p)) t u);
+      cut = some-byte;
     }
   where
-    raw : ℕ → Label
-    raw = signs (b .samples)
+    label : ℕ → Label
+    label = labels band (b .samples)
 
     some-byte : (p d q : ℕ) → p < points (b .sizes) → d < 7 → neighbour (b .sizes) p (asStart d) ≡ At q
-        → T (opposed (raw p) (raw q)) → 0 < getD (b .cuts) (byteAt p d) 0
+        → T (opposed (label p) (label q)) → 0 < getD (b .cuts) (byteAt p d) 0
     some-byte p d q l u to t =
         elim (lt-or 0 (getD (b .cuts) (byteAt p d) 0)) [
           | inl m ↦ m
@@ -52,5 +50,5 @@ accepted-fits band b h =
         way : byteAt p d % 7 ≡ d
         way = omega arith
 
-        gap : getD (b .cuts) (byteAt p d) 0 ≡ 0 → cutFault (b .sizes) raw (b .cuts) (byteAt p d) ≡ 6
-        gap z = rw (start, way, to, T-true (opposed (raw p) (raw q)) t, eq-eqb _ _ z) refl
+        gap : getD (b .cuts) (byteAt p d) 0 ≡ 0 → cutFault (b .sizes) label (b .cuts) (byteAt p d) ≡ 6
+        gap z = rw (start, way, to, T-true (opposed (label p) (label q)) t, eq-eqb _ _ z) refl

@@ -1,6 +1,7 @@
 pub mod ABlock
 pub mod APlace
 pub mod Opened
+pub mod Tests
 pub mod Accepted
 pub mod Demanded
 pub mod Fits
@@ -10,3 +11,5 @@ pub mod Before
 pub mod Told
 pub mod Unmarked
 pub mod BandZero
+pub mod Raw
+pub mod BandFirst

@@ -7,7 +7,7 @@ use Rattle.lattice.specs.Point.{linear, cell, kindOf}
 use Rattle.lattice.specs.Direction.{directions, direction, long, isStart, directionOf, step}
 use Rattle.lattice.specs.Edge.{staysIn, farKind, farIndex, near, edgeByte}
 use Rattle.lattice.specs.Rim.{outermost, rimAt}
-use Rattle.moving.specs.Label.{signOf, signs, labelOf, labels, bandFits, isPlus, isZero, isMinus, opposed}
+use Rattle.moving.specs.Label.{labelOf, labels, bandFits, isPlus, isZero, isMinus, opposed}
 use Rattle.moving.specs.Violation.{limit, measured, squared, violation, violated}
 use Rattle.moving.specs.State.{isMove, noMove}
 use Rattle.moving.specs.Nearest.{nearer, nearestTo}
@@ -29,7 +29,7 @@ unfolding
     gather from firstFrom count tableOf
     sizesFit cells points tetrahedra linear cell kindOf directions direction long isStart directionOf step
     staysIn farKind farIndex near edgeByte outermost rimAt
-    signOf signs labelOf labels bandFits isPlus isZero isMinus opposed limit measured squared violation violated
+    labelOf labels bandFits isPlus isZero isMinus opposed limit measured squared violation violated
     isMove noMove labelAfter live violationAlong nearer nearestTo moveTo turn moveBy markOf choice outset stateAt
     unit around offset corner cornerNumber inTurn inCube inLine inLayer inAxis tetrahedraOf
     cut choose stencilOf rowsOf rowsFor leadsTo codeBetween idOf

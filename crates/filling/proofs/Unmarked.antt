@@ -1,6 +1,6 @@
--- Document 02, F-8: "Rows and faces do not change." Filling as it was before the mark, and that the answer and the row table are the same,
--- whatever is handed in. Assumes nothing.
---     fillUnmarked, OnSkinUnmarked   the definitions before F-8: no state byte is marked; M and the skin in 01's words, by "non-zero state bytes"
+-- Document 02, F-8: "Rows and faces do not change." Filling as it would be without the mark, and that the answer and the row table are the
+-- same, whatever is handed in. Both read labels in all tests, as F-9 says. Assumes nothing.
+--     fillUnmarked, OnSkinUnmarked   the definitions without F-8: no state byte is marked; M and the skin in 01's words, by "non-zero state bytes"
 --     only-marked                    the answer, T and M in it, and the row table of every call are those of before; the state table too, or
 --                                    it differs only in the marks
 --     skin-as-before, skin-back      the skin of demand 3 is that of before
@@ -22,7 +22,7 @@ use Rattle.lattice.specs.Counts.{sizesFit, points}
 use Rattle.lattice.specs.Direction.{asStart}
 use Rattle.lattice.specs.Edge.{neighbour, byteAt}
 use Rattle.moving.specs.declared.Label.the-variants.{Zero}
-use Rattle.moving.specs.Label.{signs, bandFits, isZero}
+use Rattle.moving.specs.Label.{labels, bandFits, isZero}
 use Rattle.moving.specs.State.{isMove, skinMark}
 use Rattle.moving.specs.Reading.{Reading}
 use Rattle.moving.specs.Moving.{stateOf}
@@ -55,9 +55,9 @@ module _ (state rows : List ℕ) where
 unfoldable pub fillUnmarked : ℕ → Block → List ℕ → List ℕ → Outcome
 fillUnmarked band b state rows =
     let s = b .sizes in
-    let raw = signs (b .samples) in
-    let rim = firstRim s raw in
-    let cut = firstCut s raw (b .cuts) in
+    let label = labels band (b .samples) in
+    let rim = firstRim s label in
+    let cut = firstCut s label (b .cuts) in
     let refuse = refused state rows in
     if not (sizesFit s) then refuse 1 0
     else if not (bandFits band) then refuse 14 0
@@ -65,7 +65,7 @@ fillUnmarked band b state rows =
     else if not (eqb (length (b .cuts)) (7 * points s)) then refuse 3 0
     else if not (eqb (length state) (points s)) then refuse 4 0
     else if ltb rim (points s) then refuse 5 rim
-    else if ltb cut (7 * points s) then refuse (cutFault s raw (b .cuts) cut) cut
+    else if ltb cut (7 * points s) then refuse (cutFault s label (b .cuts) cut) cut
     else writtenUnmarked state rows (readingOf band b)
 
 pub data OnSkinUnmarked (m : Reading) (id : ℕ) : Type 0 where
@@ -147,9 +147,9 @@ pub only-marked : (band : ℕ) (b : Block) (state rows : List ℕ)
 unfolding fill fillUnmarked
 only-marked band b state rows =
     let s = b .sizes in
-    let raw = signs (b .samples) in
-    let rim = firstRim s raw in
-    let cut = firstCut s raw (b .cuts) in
+    let label = labels band (b .samples) in
+    let rim = firstRim s label in
+    let cut = firstCut s label (b .cuts) in
     let refuse = refused state rows in
     unless (not (sizesFit s)) (refuse 1 0)
     (unless (not (bandFits band)) (refuse 14 0)
@@ -157,5 +157,5 @@ only-marked band b state rows =
     (unless (not (eqb (length (b .cuts)) (7 * points s))) (refuse 3 0)
     (unless (not (eqb (length state) (points s))) (refuse 4 0)
     (unless (ltb rim (points s)) (refuse 5 rim)
-    (unless (ltb cut (7 * points s)) (refuse (cutFault s raw (b .cuts) cut) cut)
+    (unless (ltb cut (7 * points s)) (refuse (cutFault s label (b .cuts) cut) cut)
     (written-marked state rows (readingOf band b))))))))

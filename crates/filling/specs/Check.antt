@@ -1,4 +1,5 @@
--- Document 01, "The block" and "Calls and refusals": what a block must be like to be filled.
+-- Document 01, "The block" and "Calls and refusals": what a block must be like to be filled. Document 02, F-9: "rim and cut-byte tests read
+-- labels", which are an argument here.
 --     rimFault, firstRim         refusal 5
 --     crosses, cutFault, firstCut   refusals 6 and 7
 --     Accepted                   a block and a band that pass
@@ -18,11 +19,11 @@ use Rattle.lattice.specs.Direction.{asStart}
 use Rattle.lattice.specs.Edge.{neighbour}
 use Rattle.lattice.specs.Rim.{rim}
 use Rattle.moving.specs.declared.Label.{Label}
-use Rattle.moving.specs.Label.{signs, bandMost, isPlus, opposed}
+use Rattle.moving.specs.Label.{labels, bandMost, isPlus, opposed}
 use Rattle.moving.specs.Block.{Block, Tabled}
 
 module _ (s : Sizes) (label : ℕ → Label) where
-  -- "a rim point's sample is above zero"
+  -- "a rim point's sample is above zero", and by F-9 above the band: its label is plus
   unfoldable pub rimFault : ℕ → Bool
   rimFault p = rim s p && isPlus (label p)
 
@@ -30,7 +31,7 @@ module _ (s : Sizes) (label : ℕ → Label) where
   abbrev pub firstRim : ℕ
   firstRim = lowest rimFault (points s)
 
-  -- the edge from p to this neighbour crosses: "one end's sample is above zero and the other's below"
+  -- the edge from p to this neighbour crosses: "one end's sample is above zero and the other's below", and by F-9 neither is in the band
   unfoldable pub crossesTo : ℕ → Near → Bool
   crossesTo p Nothing = false
   crossesTo p (At q) = opposed (label p) (label q)
@@ -50,9 +51,9 @@ module _ (s : Sizes) (label : ℕ → Label) where
     abbrev pub firstCut : ℕ
     firstCut = lowest (λ o. not (eqb (cutFault o) 0)) (7 * points s)
 
--- a block that filling accepts with a band; F-3: "The rim and cut-byte tests go on reading raw samples"
+-- a block that filling accepts with a band
 pub record Accepted (band : ℕ) (b : Block) : Type 0 where
   pub banded : band ≤ bandMost
   pub tabled : Tabled b
-  pub rim-fine : (p : ℕ) → p < points (b .sizes) → rimFault (b .sizes) (signs (b .samples)) p ≡ false
-  pub cuts-fine : (o : ℕ) → o < 7 * points (b .sizes) → cutFault (b .sizes) (signs (b .samples)) (b .cuts) o ≡ 0
+  pub rim-fine : (p : ℕ) → p < points (b .sizes) → rimFault (b .sizes) (labels band (b .samples)) p ≡ false
+  pub cuts-fine : (o : ℕ) → o < 7 * points (b .sizes) → cutFault (b .sizes) (labels band (b .samples)) (b .cuts) o ≡ 0

@@ -1,5 +1,5 @@
--- Document 01, "Calls and refusals", and document 02's F-3, "A noise band": what filling answers and leaves in the lent tables, for every
--- input.
+-- Document 01, "Calls and refusals", and document 02's F-3, "A noise band", and F-9, "Band before rim": what filling answers and leaves in
+-- the lent tables, for every input.
 use Prim.Native.Nat.{ℕ, _*_}
 use mathlib.Core.Bool.{not}
 use mathlib.Core.List.{List, _++_}
@@ -8,7 +8,7 @@ use lib.Dec.{ltb, leb, eqb}
 use Rattle.basics.specs.Choice.{if_then_else_}
 use Rattle.basics.specs.Lists.{count}
 use Rattle.lattice.specs.Counts.{sizesFit, points}
-use Rattle.moving.specs.Label.{signs, bandFits}
+use Rattle.moving.specs.Label.{labels, bandFits}
 use Rattle.moving.specs.State.{isMove}
 use Rattle.moving.specs.Reading.{Reading}
 use Rattle.moving.specs.Moving.{stateOf}
@@ -51,13 +51,13 @@ module _ (state rows : List ℕ) where
 
 module _ (band : ℕ) (b : Block) (state rows : List ℕ) where
   -- "1 to 5, then the lowest byte that is a 6 or a 7 (its offset is the place), then 10"; F-3: "14 "band", the band is above 32767,
-  -- directly after 1", and "The rim and cut-byte tests go on reading raw samples"
+  -- directly after 1"; F-9: "rim and cut-byte tests read labels"
   unfoldable pub fill : Outcome
   fill =
       let s = b .sizes in
-      let raw = signs (b .samples) in
-      let rim = firstRim s raw in
-      let cut = firstCut s raw (b .cuts) in
+      let label = labels band (b .samples) in
+      let rim = firstRim s label in
+      let cut = firstCut s label (b .cuts) in
       let refuse = refused state rows in
       if not (sizesFit s) then refuse 1 0
       else if not (bandFits band) then refuse 14 0
@@ -65,5 +65,5 @@ module _ (band : ℕ) (b : Block) (state rows : List ℕ) where
       else if not (eqb (length (b .cuts)) (7 * points s)) then refuse 3 0
       else if not (eqb (length state) (points s)) then refuse 4 0
       else if ltb rim (points s) then refuse 5 rim
-      else if ltb cut (7 * points s) then refuse (cutFault s raw (b .cuts) cut) cut
+      else if ltb cut (7 * points s) then refuse (cutFault s label (b .cuts) cut) cut
       else written state rows (readingOf band b)

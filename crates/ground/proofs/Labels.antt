@@ -15,7 +15,7 @@ use mathlib.Core.Bool.{Bool, true, false, not}
 use lib.Dec.{T}
 use lib.IntN.{ℤ, pos, negsuc, _-ℤ_}
 use lib.Signed.{mag, ltZ}
-use borrow.Author.Tests.{lt-ltb, le-ltb, le-leb, ltb-true, ltb-false, eq-eqb, ne-eqb}
+use borrow.Author.Tests.{lt-ltb, le-ltb, le-leb, ltb-true, ltb-false}
 use mir.Syntax.{w16, w64}
 use mir.Val.{ofZ, toZ, SFits}
 use mir.ValLaws.{toZ-ofZ}
@@ -23,43 +23,39 @@ use Rattle.basics.specs.Choice.{if_then_else_}
 use Rattle.basics.proofs.Test.{lt-or}
 use Rattle.moving.specs.declared.Label.{Label}
 use Rattle.moving.specs.declared.Label.the-variants.{Minus, Zero, Plus}
-use Rattle.moving.specs.Label.{bandMost, signOf, labelOf, isPlus, isZero, isMinus, opposed}
+use Rattle.moving.specs.Label.{bandMost, labelOf, isPlus, isZero, isMinus, opposed}
 use Rattle.moving.specs.State.{skinMark}
 use Rattle.moving.specs.Moving.{markOf}
-use Rattle.moving.proofs.Band.{label-in, label-out, label-or}
+use Rattle.moving.proofs.Band.{label-in, label-plus, label-minus, natural-or, negative-or}
 use Rattle.ground.specs.inner.Labels.{hasLabel}
 
 false-true : {A : Type 0} → _≡_ {A = Bool} false true → A
 false-true e = absurd (subst T (sym e) tt)
 
 pub above : (band : ℕ) (x : ℤ) → ltZ (pos band) x ≡ isPlus (labelOf band x)
-unfolding signOf isPlus
-above band (negsuc n) = elim (label-or band (negsuc n)) [ inl z ↦ rw z refl | inr s ↦ rw s refl ]
+unfolding isPlus
+above band (negsuc n) = elim (negative-or band n) [ inl z ↦ rw z refl | inr s ↦ rw s refl ]
 above band (pos n) =
     elim (lt-or band n) [
-      | inl l ↦ rw (label-out band (pos n) l, ne-eqb n 0 (λ e. omega arith)) (lt-ltb band n l)
+      | inl l ↦ rw (label-plus band n l) (lt-ltb band n l)
       | inr l ↦ rw (label-in band (pos n) l) (le-ltb band n l)
     ]
 
 -- no sample from zero on is below a band
 not-minus : (band n : ℕ) → false ≡ isMinus (labelOf band (pos n))
-unfolding signOf isMinus
-not-minus band n =
-    elim (label-or band (pos n)) [
-      | inl z ↦ rw z refl
-      | inr s ↦ elim (lt-or 0 n) [ inl l ↦ rw (s, ne-eqb n 0 (λ e. omega arith)) refl | inr l ↦ rw (s, eq-eqb n 0 (omega arith)) refl ]
-    ]
+unfolding isMinus
+not-minus band n = elim (natural-or band n) [ inl z ↦ rw z refl | inr s ↦ rw s refl ]
 
 -- the lower end of a band
 low-is : (b : ℕ) → pos 0 -ℤ pos (suc b) ≡ negsuc b
 low-is b = rw (le-leb 1 (suc b) (omega arith)) (ap negsuc (omega arith))
 
 pub beneath : (band : ℕ) (x : ℤ) → ltZ x (pos 0 -ℤ pos band) ≡ isMinus (labelOf band x)
-unfolding signOf isMinus
-beneath zero (negsuc n) = rw (label-out 0 (negsuc n) (omega arith)) refl
+unfolding isMinus
+beneath zero (negsuc n) = rw (label-minus 0 n (omega arith)) refl
 beneath (suc b) (negsuc n) =
     elim (lt-or b n) [
-      | inl l ↦ rw (low-is b, label-out (suc b) (negsuc n) (omega arith)) (lt-ltb b n l)
+      | inl l ↦ rw (low-is b, label-minus (suc b) n (omega arith)) (lt-ltb b n l)
       | inr l ↦ rw (low-is b, label-in (suc b) (negsuc n) (omega arith)) (le-ltb b n l)
     ]
 beneath zero (pos n) = le-ltb n 0 (omega arith) ∙ not-minus 0 n

@@ -46,13 +46,26 @@ cubes n = record { nx = n; ny = n; nz = n }
 abbrev cube : List Entry → Block
 cube cuts = blockOf (cubes 1) (set (replicate 9 (negℤ (pos 5))) 8 (pos 3)) (tableOf 63 cuts)
 
-unfoldable pub calls : List Block
+-- a call: the band and the block
+pub record Call : Type 0 where
+  pub band : ℕ
+  pub block : Block
+
+abbrev call : ℕ → Block → Call
+call band b = record { band = band; block = b }
+
+unfoldable pub calls : List Call
 calls =
-    blockOf (cubes 0) [] (replicate 3 9)
-    ∷ blockOf (cubes 1) (replicate 8 (pos 5)) (replicate 62 9)
-    ∷ blockOf (cubes 1) (replicate 9 (pos 5)) (replicate 62 9)
+    -- F-9: "14 comes directly after 1 in the mending tool as well"
+    call 32768 (blockOf (cubes 0) [] (replicate 3 9))
+    ∷ call 32768 (blockOf (cubes 1) (replicate 8 (pos 5)) (replicate 62 9))
+    ∷ call 32767 (blockOf (cubes 1) (replicate 8 (pos 5)) (replicate 62 9))
+    ∷ call 0 (blockOf (cubes 1) (replicate 9 (pos 5)) (replicate 62 9))
     -- a byte that is good, and stray ones: on an edge that does not cross, and twice where no edge is
-    ∷ cube (59 := 77 ∷ 0 := 9 ∷ 7 := 9 ∷ 58 := 9 ∷ [])
+    ∷ call 0 (cube (59 := 77 ∷ 0 := 9 ∷ 7 := 9 ∷ 58 := 9 ∷ []))
+    -- F-9: "follows the same labels": the centre is outside the band 2 and in the band 3
+    ∷ call 2 (cube (59 := 77 ∷ 0 := 9 ∷ 7 := 9 ∷ 58 := 9 ∷ []))
+    ∷ call 3 (cube (59 := 77 ∷ 0 := 9 ∷ 7 := 9 ∷ 58 := 9 ∷ []))
     ∷ []
 
 abbrev outcome : ℕ → ℕ → ℕ → List ℕ → Outcome
@@ -61,11 +74,14 @@ outcome n f c cuts = record { answer = record { number = n; filled = f; cleared 
 unfoldable pub outcomes : List Outcome
 outcomes =
     outcome 1 0 0 (replicate 3 9)
+    ∷ outcome 14 0 0 (replicate 62 9)
     ∷ outcome 2 0 0 (replicate 62 9)
     ∷ outcome 3 0 0 (replicate 62 9)
     ∷ outcome 0 7 3 (tableOf 63 (3 := 160 ∷ 11 := 160 ∷ 19 := 160 ∷ 27 := 160 ∷ 59 := 77 ∷ 60 := 96 ∷ 61 := 96 ∷ 62 := 96 ∷ []))
+    ∷ outcome 0 7 3 (tableOf 63 (3 := 160 ∷ 11 := 160 ∷ 19 := 160 ∷ 27 := 160 ∷ 59 := 77 ∷ 60 := 96 ∷ 61 := 96 ∷ 62 := 96 ∷ []))
+    ∷ outcome 0 0 4 (tableOf 63 [])
     ∷ []
 
-pub mends-so : map mend calls ≡ outcomes
+pub mends-so : map (λ c. mend (c .band) (c .block)) calls ≡ outcomes
 unfolding definitions sizeOf rounded held byteTo mendedByte faults mend calls outcomes
 mends-so = refl

@@ -1,6 +1,7 @@
 pub mod AMend
 pub mod Step
-pub mod Signs
+pub mod Sizes
 pub mod Bytes
 pub mod Tested
 pub mod Theorems
+pub mod BandFirst

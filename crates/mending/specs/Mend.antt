@@ -1,4 +1,5 @@
--- Document 02, F-4, "Mend a cut table": what mending answers and leaves in the lent table, for every input.
+-- Document 02, F-4, "Mend a cut table", and F-9: "The mending tool takes the band too and follows the same labels": what mending answers and
+-- leaves in the lent table, for every input.
 --     sizeOf, rounded, held     the byte between two samples, by their sizes
 --     faultAt                   what filling would say of a byte
 --     mendedByte, faults        what becomes of a byte, and how many are at fault
@@ -17,7 +18,7 @@ use Rattle.lattice.specs.Counts.{sizesFit, points}
 use Rattle.lattice.specs.Direction.{asStart}
 use Rattle.lattice.specs.Edge.{neighbour}
 use Rattle.moving.specs.declared.Label.{Label}
-use Rattle.moving.specs.Label.{signs}
+use Rattle.moving.specs.Label.{labels, bandFits}
 use Rattle.moving.specs.Block.{Block}
 use Rattle.filling.specs.Check.{cutFault}
 use Rattle.mending.specs.declared.Mended.{Mended}
@@ -75,11 +76,12 @@ module _ (label : ℕ → Label) (b : Block) where
 abbrev pub refused : List ℕ → ℕ → Outcome
 refused cuts n = record { answer = record { number = n; filled = 0; cleared = 0 }; cuts = cuts }
 
--- "Checks: 1, 2, 3, none added". Which edges cross is read off raw samples, as filling's test of the cut bytes reads it
-unfoldable pub mend : Block → Outcome
-mend b =
+-- "Checks: 1, 2, 3"; F-9: "14 comes directly after 1 in the mending tool as well"
+unfoldable pub mend : ℕ → Block → Outcome
+mend band b =
     let n = points (b .sizes) in
     if not (sizesFit (b .sizes)) then refused (b .cuts) 1
+    else if not (bandFits band) then refused (b .cuts) 14
     else if not (eqb (length (b .samples)) n) then refused (b .cuts) 2
     else if not (eqb (length (b .cuts)) (7 * n)) then refused (b .cuts) 3
-    else mended (signs (b .samples)) b
+    else mended (labels band (b .samples)) b

@@ -9,7 +9,7 @@ use mathlib.Core.List.{List, [], _∷_, map}
 use lib.IntN.{ℤ, pos, negℤ}
 use Rattle.moving.specs.declared.Label.{Label}
 use Rattle.moving.specs.declared.Label.the-variants.{Minus, Zero, Plus}
-use Rattle.moving.specs.Label.{signOf, labelOf, bandFits}
+use Rattle.moving.specs.Label.{labelOf, bandFits}
 
 -- "A sample whose size is at most the band has label zero": by the bands 0, 4 and 5
 abbrev byThree : ℤ → List Label
@@ -27,13 +27,13 @@ pub in-bands :
     ∷ (Minus ∷ Minus ∷ Zero ∷ [])
     ∷ (Minus ∷ Minus ∷ Minus ∷ [])
     ∷ []
-unfolding signOf labelOf
+unfolding labelOf
 in-bands = refl
 
 -- by the largest band every sample is zero but -32768, whose size is 32,768
 pub by-the-largest :
     map (labelOf 32767) (pos 32767 ∷ negℤ (pos 32767) ∷ negℤ (pos 32768) ∷ []) ≡ Zero ∷ Zero ∷ Minus ∷ []
-unfolding signOf labelOf
+unfolding labelOf
 by-the-largest = refl
 
 -- "a band from 0 to 32767"

@@ -16,7 +16,7 @@ use Rattle.lattice.specs.Counts.{cells, points}
 use Rattle.lattice.specs.Point.{linear, cell, kindOf}
 use Rattle.lattice.specs.Direction.{directions, direction, long, isStart, directionOf, step}
 use Rattle.lattice.specs.Edge.{staysIn, farKind, farIndex, near, edgeByte}
-use Rattle.moving.specs.Label.{signOf, labelOf, labels, isZero}
+use Rattle.moving.specs.Label.{labelOf, labels, isZero}
 use Rattle.moving.specs.Violation.{limit, measured, squared, violation}
 use Rattle.moving.specs.State.{isMove, noMove}
 use Rattle.moving.specs.Nearest.{nearer, nearestTo}
@@ -61,7 +61,7 @@ theCases =
 pub one-cube : map (λ c. stateOf (readingOf 0 (block c))) theCases ≡ map (λ c. tableOf 9 (c .moves)) theCases
 unfolding
     theCases block tableOf stateAt markOf outset moveBy turn isMove moveTo from choice nearestTo nearer violationAlong
-    signOf labelOf labels live labelAfter isZero violation limit measured squared
+    labelOf labels live labelAfter isZero violation limit measured squared
     cells points linear cell kindOf directions direction long isStart directionOf step staysIn farKind farIndex near edgeByte
 one-cube = refl
 
@@ -76,6 +76,6 @@ banded band =
 pub beside-a-band : map banded (2 ∷ 3 ∷ []) ≡ tableOf 9 (0 := 4 ∷ []) ∷ tableOf 9 (8 := 15 ∷ []) ∷ []
 unfolding
     banded tableOf stateAt markOf outset moveBy turn isMove moveTo from choice nearestTo nearer violationAlong
-    signOf labelOf labels live labelAfter isZero violation limit measured squared
+    labelOf labels live labelAfter isZero violation limit measured squared
     cells points linear cell kindOf directions direction long isStart directionOf step staysIn farKind farIndex near edgeByte
 beside-a-band = refl

@@ -1,99 +1,83 @@
--- Document 02, F-3: labels by a band and raw signs. Assumes nothing.
---     label-in, zero-in, label-out, label-or   a label is zero exactly if the sample's size is at most the band; any other is the sign
---     label-raw, labels-raw, opposed-raw       by the band 0 it is always the sign
---     plus-sign, opposed-signs                 what is plus by a band is above zero, and what is opposed by it has opposed signs
---     in-band-rests                            a point in the band never moves: it has the mark
---     fits-banded, banded-fits                 the test of the band
-use Prim.Native.Nat.{ℕ, _≤_, _<_}
+-- Labels by a band (document 02, F-3). Assumes nothing.
+--     label-in, label-plus, label-minus   a label is zero if the sample's size is at most the band; any other is the sign
+--     natural-or, negative-or             of a sample from zero on, and of one below
+--     zero-in, plus-out, opposed-out      what a label says of its sample, and what it says of two that they are opposed
+--     in-band-rests                       a point in the band never moves: it has the mark
+--     fits-banded, banded-fits            the test of the band
+use Prim.Native.Nat.{ℕ, suc, _≤_, _<_}
 use native.Mathlib.Omega.{arith}
-use mathlib.Core.Path.{_≡_, sym, _∙_, subst}
+use mathlib.Core.Path.{_≡_, subst}
 use mathlib.Core.Logic.{_⊎_, inl, inr}
-use mathlib.Core.List.{List}
 use mathlib.Core.Bool.{true}
 use lib.Dec.{T}
 use lib.IntN.{ℤ, pos, negsuc, natAbs}
 use lib.ListN.{getD}
-use borrow.Author.Tests.{le-leb, lt-leb, leb-true, eq-eqb, ne-eqb}
+use borrow.Author.Tests.{le-leb, lt-leb, leb-true, le-ltb}
 use Rattle.basics.proofs.Test.{lt-or}
 use Rattle.lattice.specs.Counts.{points}
 use Rattle.moving.specs.declared.Label.{Label}
 use Rattle.moving.specs.declared.Label.the-variants.{Minus, Zero, Plus}
-use Rattle.moving.specs.Label.{signOf, labelOf, signs, labels, bandMost, bandFits, isPlus, isMinus, opposed}
+use Rattle.moving.specs.Label.{labelOf, labels, bandMost, bandFits, isPlus, isMinus, opposed}
 use Rattle.moving.specs.State.{skinMark}
 use Rattle.moving.specs.Block.{Block, readingOf}
 use Rattle.moving.specs.Moving.{stateOf}
 use Rattle.moving.proofs.Moved.{state-reached, reached-rests}
 
-module _ (band : ℕ) (a : ℤ) where
-  pub label-in : natAbs a ≤ band → labelOf band a ≡ Zero
+module _ (band : ℕ) where
+  pub label-in : (a : ℤ) → natAbs a ≤ band → labelOf band a ≡ Zero
   unfolding labelOf
-  label-in h = simp (le-leb (natAbs a) band h)
+  label-in a h = simp (le-leb (natAbs a) band h)
 
-  pub label-out : band < natAbs a → labelOf band a ≡ signOf a
+  pub label-plus : (n : ℕ) → band < n → labelOf band (pos n) ≡ Plus
   unfolding labelOf
-  label-out h = simp (lt-leb (natAbs a) band h)
+  label-plus n h = simp (lt-leb n band h, le-ltb n 0 (omega arith))
 
-  pub label-or : (labelOf band a ≡ Zero) ⊎ (labelOf band a ≡ signOf a)
-  label-or = elim (lt-or band (natAbs a)) [ inl l ↦ inr (label-out l) | inr l ↦ inl (label-in l) ]
+  pub label-minus : (n : ℕ) → band < suc n → labelOf band (negsuc n) ≡ Minus
+  unfolding labelOf
+  label-minus n h = simp (lt-leb (suc n) band h)
 
--- the sign is zero only of a zero sample
-sign-some : (a : ℤ) → 0 < natAbs a → signOf a ≡ Zero → ⊥
-unfolding signOf
-sign-some (negsuc n) h e = let z : _≡_ {A = ℕ} 0 1 = cc in omega arith
-sign-some (pos n) h e =
-    let plus : signOf (pos n) ≡ Plus = simp (ne-eqb n 0 (λ z. omega arith)) in
-    let z : _≡_ {A = ℕ} 0 1 = cc in
-    omega arith
+  pub natural-or : (n : ℕ) → (labelOf band (pos n) ≡ Zero) ⊎ (labelOf band (pos n) ≡ Plus)
+  natural-or n = elim (lt-or band n) [ inl l ↦ inr (label-plus n l) | inr l ↦ inl (label-in (pos n) l) ]
 
-module _ (band : ℕ) (a : ℤ) where
-  pub zero-in : labelOf band a ≡ Zero → natAbs a ≤ band
-  zero-in e =
-      elim (lt-or band (natAbs a)) [
-        | inl l ↦ absurd (sign-some a (omega arith) (sym (label-out band a l) ∙ e))
-        | inr l ↦ l
-      ]
+  pub negative-or : (n : ℕ) → (labelOf band (negsuc n) ≡ Zero) ⊎ (labelOf band (negsuc n) ≡ Minus)
+  negative-or n = elim (lt-or band (suc n)) [ inl l ↦ inr (label-minus n l) | inr l ↦ inl (label-in (negsuc n) l) ]
 
-  pub plus-sign : T (isPlus (labelOf band a)) → T (isPlus (signOf a))
+  pub zero-in : (a : ℤ) → labelOf band a ≡ Zero → natAbs a ≤ band
+  zero-in a e = elim (lt-or band (natAbs a)) [ inl l ↦ absurd (out a l e) | inr l ↦ l ]
+    where
+      out : (a : ℤ) → band < natAbs a → labelOf band a ≡ Zero → ⊥
+      out (pos n) l e =
+          let is = label-plus n l in
+          let z : _≡_ {A = ℕ} 0 1 = cc in
+          omega arith
+      out (negsuc n) l e =
+          let is = label-minus n l in
+          let z : _≡_ {A = ℕ} 0 1 = cc in
+          omega arith
+
+  pub plus-out : (a : ℤ) → T (isPlus (labelOf band a)) → band < natAbs a
   unfolding isPlus
-  plus-sign t =
-      elim (label-or band a) [
-        | inl z ↦ absurd (subst (λ (l : Label). T (isPlus l)) z t)
-        | inr s ↦ subst (λ (l : Label). T (isPlus l)) s t
-      ]
+  plus-out a t =
+      elim (lt-or band (natAbs a)) [ inl l ↦ l | inr l ↦ absurd (subst (λ (x : Label). T (isPlus x)) (label-in a l) t) ]
 
-pub label-raw : (a : ℤ) → labelOf 0 a ≡ signOf a
-unfolding signOf
-label-raw (negsuc n) = label-out 0 (negsuc n) (omega arith)
-label-raw (pos n) =
-    elim (lt-or 0 n) [
-      | inl l ↦ label-out 0 (pos n) l
-      | inr l ↦ label-in 0 (pos n) l ∙ sym (simp (eq-eqb n 0 (omega arith)))
-    ]
-
-pub labels-raw : (samples : List ℤ) → labels 0 samples ≡ signs samples
-unfolding labels signs
-labels-raw samples = λ i p. label-raw (getD samples p (pos 0)) i
-
-pub opposed-raw : (a b : ℤ) → opposed (labelOf 0 a) (labelOf 0 b) ≡ opposed (signOf a) (signOf b)
-opposed-raw a b = λ i. opposed (label-raw a i) (label-raw b i)
-
-pub opposed-signs : (band : ℕ) (a b : ℤ) → T (opposed (labelOf band a) (labelOf band b)) → T (opposed (signOf a) (signOf b))
-unfolding opposed isPlus isMinus
-opposed-signs band a b t =
-    elim (label-or band a) [
-      | inl z ↦ absurd (subst (λ (l : Label). T (opposed l (labelOf band b))) z t)
-      | inr s ↦
-          let u = subst (λ (l : Label). T (opposed l (labelOf band b))) s t in
-          elim (label-or band b) [
-            | inl z ↦ absurd (none (signOf a) (subst (λ (l : Label). T (opposed (signOf a) l)) z u))
-            | inr r ↦ subst (λ (l : Label). T (opposed (signOf a) l)) r u
-          ]
-    ]
-  where
-    none : (l : Label) → T (opposed l Zero) → ⊥
-    none Minus t = t
-    none Zero t = t
-    none Plus t = t
+  -- neither of two opposed samples is in the band
+  pub opposed-out : (a b : ℤ) → T (opposed (labelOf band a) (labelOf band b)) → (band < natAbs a) × (band < natAbs b)
+  unfolding opposed isPlus isMinus
+  opposed-out a b t = (
+    elim (lt-or band (natAbs a)) [
+      | inl l ↦ l
+      | inr l ↦ absurd (subst (λ (x : Label). T (opposed x (labelOf band b))) (label-in a l) t)
+    ],
+    elim (lt-or band (natAbs b)) [
+      | inl l ↦ l
+      | inr l ↦ absurd (none (labelOf band a) (subst (λ (x : Label). T (opposed (labelOf band a) x)) (label-in b l) t))
+    ],
+  )
+    where
+      none : (x : Label) → T (opposed x Zero) → ⊥
+      none Minus t = t
+      none Zero t = t
+      none Plus t = t
 
 -- whatever moves were made, and so by the papers' rules
 pub in-band-rests : (band : ℕ) (b : Block) (p : ℕ) → p < points (b .sizes) → natAbs (getD (b .samples) p (pos 0)) ≤ band

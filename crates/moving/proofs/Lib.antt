@@ -14,5 +14,6 @@ pub mod First
 pub mod SamePoints
 pub mod Moved
 pub mod Band
+pub mod Signs
 pub mod Unmarked
 pub mod Theorems

@@ -1,34 +1,26 @@
--- Document 01, "Moving points": "A point's label is its sample's sign: plus, minus or zero." Document 02, F-3, adds a noise band.
+-- Document 01, "Moving points": "A point's label is its sample's sign: plus, minus or zero." Document 02, F-3, adds a noise band, and F-9:
+-- "The band shall come first": the tests of the rim and of the cut bytes, moving, the rows and mending all read these labels.
 --     labelOf, labels      the label of a sample by a band, and the labelling of a block's points
---     signOf, signs        a sample's own sign, and those of a block's points
 --     bandMost, bandFits   which bands are taken
 --     isPlus, isZero, isMinus, opposed
 use Prim.Native.Nat.{ℕ}
 use mathlib.Core.Bool.{Bool, true, false}
 use mathlib.Core.List.{List}
-use lib.Dec.{eqb, leb}
-use lib.IntN.{ℤ, pos, negsuc, natAbs}
+use lib.Dec.{leb}
+use lib.IntN.{ℤ, pos, natAbs}
+use lib.Signed.{ltZ}
 use lib.ListN.{getD}
 use Rattle.basics.specs.Choice.{if_then_else_}
 use Rattle.moving.specs.declared.Label.{Label}
 use Rattle.moving.specs.declared.Label.the-variants.{Minus, Zero, Plus}
 
--- a sample's own sign, whatever the band
-unfoldable pub signOf : ℤ → Label
-signOf (negsuc n) = Minus
-signOf (pos n) = if eqb n 0 then Zero else Plus
-
--- "A sample whose size is at most the band has label zero"; any other has its sign
+-- "A sample whose size is at most the band has label zero"; any other has "its sample's sign"
 unfoldable pub labelOf : ℕ → ℤ → Label
-labelOf band a = if leb (natAbs a) band then Zero else signOf a
+labelOf band a = if leb (natAbs a) band then Zero else if ltZ a (pos 0) then Minus else Plus
 
 -- "Samples are signed 16-bit, one per point"
 unfoldable pub labels : ℕ → List ℤ → ℕ → Label
 labels band samples p = labelOf band (getD samples p (pos 0))
-
--- "The rim and cut-byte tests go on reading raw samples"
-unfoldable pub signs : List ℤ → ℕ → Label
-signs samples p = signOf (getD samples p (pos 0))
 
 -- "Filling gains a band from 0 to 32767"
 abbrev pub bandMost : ℕ

@@ -15,11 +15,11 @@ use Rattle.lattice.specs.Counts.{points}
 use Rattle.lattice.specs.Direction.{asStart}
 use Rattle.lattice.specs.Edge.{neighbour}
 use Rattle.moving.specs.declared.Label.{Label}
-use Rattle.moving.specs.Label.{signs, opposed}
+use Rattle.moving.specs.Label.{labels, opposed}
 use Rattle.filling.specs.Check.{crosses, crossesTo}
 use Rattle.ground.specs.inner.Strides.{endsAt}
 use Rattle.mending.specs.Mend.{sizeAt, byteTo}
-use Rattle.mending.proofs.Signs.{opposed-some}
+use Rattle.mending.proofs.Sizes.{opposed-some}
 use Rattle.checks.specs.inner.Faults.{Asked, crossingsAt}
 use Rattle.checks.proofs.Faults.{crossing-at}
 use Rattle.checks.proofs.Edges.{asked-in, crosses-to}
@@ -28,24 +28,24 @@ use Rattle.patch.specs.inner.Mends.{Mends, Ends, sevenDue, pointDue, tab
 use Rattle.patch.proofs.Mends.{same-due, lent-part}
 use Rattle.basics.proofs.Part.{back}
 
-module _ {s : Sizes} {samples : List ℤ} {q : Site} (a : Asked s samples q) {must : List Bool} {far : List ℕ}
-    (m : must ≡ crossingsAt s (signs samples) (q .own)) (f : far ≡ endsAt s q) where
-  abbrev raw : ℕ → Label
-  raw = signs samples
+module _ (band : ℕ) {s : Sizes} {samples : List ℤ} {q : Site} (a : Asked s samples q) {must : List Bool} {far : List ℕ}
+    (m : must ≡ crossingsAt s (labels band samples) (q .own)) (f : far ≡ endsAt s q) where
+  abbrev label : ℕ → Label
+  label = labels band samples
 
   -- the test's answer, and where an edge that crosses leads
-  must-is : (d : ℕ) → d < 7 → getD must d false ≡ crosses s raw (q .own) d
-  must-is d u = ap (λ (l : List Bool). getD l d false) m ∙ crossing-at s raw (q .own) d u
+  must-is : (d : ℕ) → d < 7 → getD must d false ≡ crosses s label (q .own) d
+  must-is d u = ap (λ (l : List Bool). getD l d false) m ∙ crossing-at s label (q .own) d u
 
-  leads-to : (d : ℕ) → d < 7 → crosses s raw (q .own) d ≡ true
+  leads-to : (d : ℕ) → d < 7 → crosses s label (q .own) d ≡ true
       → (neighbour s (q .own) (asStart d) ≡ At (getD far d 0)) × (getD far d 0 < points s)
-  leads-to d u c = crosses-to s q (a .sized) (a .sited) d u (ap (λ (l : List ℕ). getD l d 0) f) raw c
+  leads-to d u c = crosses-to s q (a .sized) (a .sited) d u (ap (λ (l : List ℕ). getD l d 0) f) label c
 
-  start-some : (d : ℕ) → d < 7 → crosses s raw (q .own) d ≡ true → 0 < sizeAt samples (q .own)
-  unfolding crossesTo signs
+  start-some : (d : ℕ) → d < 7 → crosses s label (q .own) d ≡ true → 0 < sizeAt samples (q .own)
+  unfolding crossesTo labels
   start-some d u c =
-      let w : opposed (raw (q .own)) (raw (getD far d 0)) ≡ true = sym (ap (crossesTo s raw (q .own)) (leads-to d u c .0)) ∙ c in
-      opposed-some _ _ w .0
+      let w : opposed (label (q .own)) (label (getD far d 0)) ≡ true = sym (ap (crossesTo s label (q .own)) (leads-to d u c .0)) ∙ c in
+      opposed-some band _ _ w .0
 
   pub site-ends : Ends samples must (q .own) far
   site-ends =
@@ -57,7 +57,7 @@ module _ {s : Sizes} {samples : List ℤ} {q : Site} (a : Asked s samples q) {mu
       }
 
   pub site-mended : {old new : List ℕ} {c : Counts} → Mends (sevenDue samples must (q .own) far) 0 7 old new c
-      → Mends (pointDue s raw samples (q .own)) 0 7 old new c
+      → Mends (pointDue s label samples (q .own)) 0 7 old new c
   site-mended w =
       same-due (λ d l u. must-is d u) (λ d l u t. ap (byteTo samples (q .own)) (sym (leads-to d u t .0))) (omega arith) w
 

@@ -1,5 +1,6 @@
 // Mending the cut table of a block, after the papers' checks.
 use crate::table;
+use ground::label;
 use lattice::Sizes;
 use lattice::counts;
 use mending::Mended;
@@ -17,13 +18,16 @@ fn refused(number: u32) -> Mended
     }
 }
 
-// Sizes, then the lengths of the tables.
-pub fn mend_block(s: Sizes, samples: &[i16], cuts: &mut [u8]) -> Mended
-    ensures answer { λ r. ⌜ r ≡ mend (blockOf s (now (samples .entry)) (now (cuts .entry))) .answer ⌝ }
-    ensures cuts { λ _. ⌜ now (cuts .exit) ≡ mend (blockOf s (now (samples .entry)) (now (cuts .entry))) .cuts ⌝ }
+// Sizes, the band, then the lengths of the tables.
+pub fn mend_block(s: Sizes, band: u32, samples: &[i16], cuts: &mut [u8]) -> Mended
+    ensures answer { λ r. ⌜ r ≡ mend band (blockOf s (now (samples .entry)) (now (cuts .entry))) .answer ⌝ }
+    ensures cuts { λ _. ⌜ now (cuts .exit) ≡ mend band (blockOf s (now (samples .entry)) (now (cuts .entry))) .cuts ⌝ }
 {
     if !counts::sizes_fit(s) {
         return refused(1);
+    }
+    if !label::band_fits(band) {
+        return refused(14);
     }
     let n = counts::point_count(s);
     if samples.len() != n {
@@ -32,7 +36,7 @@ pub fn mend_block(s: Sizes, samples: &[i16], cuts: &mut [u8]) -> Mended
     if cuts.len() != 7 * n {
         return refused(3);
     }
-    let r = table::mend_table(s, samples, cuts);
+    let r = table::mend_table(s, band, samples, cuts);
     Mended {
         number: 0,
         filled: r.filled as u64,

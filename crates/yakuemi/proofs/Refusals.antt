@@ -51,16 +51,17 @@ module _ (band : ℕ) (b : Block) (state rows : List ℕ) where
         by-state n = simp (fit, banded, eq-eqb _ _ samples, eq-eqb _ _ cuts, ne-eqb _ _ n)
 
         module _ (long : length state ≡ points (b .sizes)) where
-          pub by-rim : rimOf b < points (b .sizes) → fill band b state rows ≡ refused state rows 5 (rimOf b)
+          pub by-rim : rimOf band b < points (b .sizes) → fill band b state rows ≡ refused state rows 5 (rimOf band b)
           unfolding fill
           by-rim h = simp (fit, banded, eq-eqb _ _ samples, eq-eqb _ _ cuts, eq-eqb _ _ long, lt-ltb _ _ h)
 
-          pub by-byte : points (b .sizes) ≤ rimOf b → cutOf b < 7 * points (b .sizes)
-              → fill band b state rows ≡ refused state rows (faultIn b (cutOf b)) (cutOf b)
+          pub by-byte : points (b .sizes) ≤ rimOf band b → cutOf band b < 7 * points (b .sizes)
+              → fill band b state rows ≡ refused state rows (faultIn band b (cutOf band b)) (cutOf band b)
           unfolding fill
           by-byte r h = simp (fit, banded, eq-eqb _ _ samples, eq-eqb _ _ cuts, eq-eqb _ _ long, le-ltb _ _ r, lt-ltb _ _ h)
 
-          pub by-none : points (b .sizes) ≤ rimOf b → 7 * points (b .sizes) ≤ cutOf b → fill band b state rows ≡ written state rows (readingOf band b)
+          pub by-none : points (b .sizes) ≤ rimOf band b → 7 * points (b .sizes) ≤ cutOf band b
+              → fill band b state rows ≡ written state rows (readingOf band b)
           unfolding fill
           by-none r h = simp (fit, banded, eq-eqb _ _ samples, eq-eqb _ _ cuts, eq-eqb _ _ long, le-ltb _ _ r, le-ltb _ _ h)
 

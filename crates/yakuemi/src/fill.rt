@@ -11,13 +11,14 @@ ghost use Rattle.yakuemi.specs.Measures.{sizes};
 
 // Moves the points that sit too near the skin, each to the nearest cut, and writes the rows of a
 // block of nx by ny by nz cubes: N samples, 7N cut bytes, N state bytes and a row table, of any
-// content. A sample whose size is at most the band counts as zero, so its point lies on the skin: it
-// never moves, and its state byte is 15.
+// content. A sample whose size is at most the band counts as zero, in every test, so its point lies on
+// the skin: it never moves, and its state byte is 15.
 //
 // Theorems: by the band 0 filling is what it was without one (`band-0`,
 // crates/filling/proofs/BandZero.antt); what each state byte says of its point (`told`,
 // crates/filling/proofs/Told.antt); the byte 15 changed no answer and no row (`only-marked`,
-// crates/filling/proofs/Unmarked.antt).
+// crates/filling/proofs/Unmarked.antt); which answers changed when the band came before the tests of
+// rim and cut bytes (`four-kinds`, crates/filling/proofs/BandFirst.antt).
 #[no_mangle]
 pub extern "C" fn yakuemi_fill(
     nx: u32,

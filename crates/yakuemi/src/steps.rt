@@ -59,7 +59,7 @@ fn fill_accepted(
     answered(0, count, moved)
 }
 
-// Tables of the right lengths: the rim, then the cut bytes, by raw samples.
+// Tables of the right lengths: the rim, then the cut bytes.
 fn fill_tabled(
     s: Sizes,
     band: u32,
@@ -75,11 +75,11 @@ fn fill_tabled(
         (now (state .entry)) (now (rows .entry)) r (now (state .exit)) (now (rows .exit)) ⌝ }
 {
     let n = counts::point_count(s);
-    let first = checks::rim::first_rim(s, samples);
+    let first = checks::rim::first_rim(s, band, samples);
     if first < n {
         return refused(5, first);
     }
-    let fault = checks::cuts::first_cut(s, samples, cuts);
+    let fault = checks::cuts::first_cut(s, band, samples, cuts);
     match fault {
         Fault::Gap(o) => refused(6, o),
         Fault::Stray(o) => refused(7, o),

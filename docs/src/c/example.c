@@ -84,25 +84,30 @@ static int fill_and_print(void)
     return EXIT_SUCCESS;
 }
 
+static void print_mended(const char *what, uint32_t band, size_t points)
+{
+    struct yakuemi_mended m = yakuemi_mend(SIZE, SIZE, SIZE, band, samples, points, cuts, sizeof cuts);
+    printf("%s: answer %u, filled in %lu, cleared %lu\n", what, (unsigned)m.number, (unsigned long)m.filled, (unsigned long)m.cleared);
+}
+
 /*
- * Noise bands. All samples are 5 or -5: out of a band of 4, but in a band of 5, where nothing is left to fill and no point moves, however
- * near a cut is; a cut beside a point in the band has no place. Cut bytes and rim are tested by the samples as they are.
+ * Noise bands. All samples are 5 or -5: out of a band of 4, but in a band of 5. There nothing is left to fill, and every cut byte is a
+ * stray; mending with the same band clears them. The band comes before the rim too: a sample of 1 there is a fault only without one.
  */
 static void print_bands(void)
 {
     uint32_t rows[96];
     print_filled("band 4", fill_banded(4, rows, 96));
     print_filled("band 5", fill_banded(5, rows, 96));
+    print_mended("mended with band 5", 5, POINTS);
+    print_filled("band 5", fill_banded(5, rows, 96));
     print_place(POINTS + 91);
-    cuts[91] = 63;
-    print_filled("band 5, byte 91 is 63", fill_banded(5, rows, 96));
-    cuts[91] = 0;
-    print_filled("band 5, byte 91 is zero", fill_banded(5, rows, 96));
-    cuts[91] = 128;
     samples[27] = 1;
     print_filled("band 5, sample 27 is 1", fill_banded(5, rows, 96));
-    samples[27] = -5;
+    print_filled("band 0, sample 27 is 1", fill_banded(0, rows, 96));
     print_filled("band 32768", fill_banded(32768, rows, 96));
+    print_mended("mended with band 32768", 32768, POINTS);
+    given_case();
 }
 
 /* What a viewer colours: the points that lie on the skin, by the state table. A sample of 0 on the rim, and a cut near point 14. */
@@ -187,12 +192,6 @@ static void print_readings(void)
     print_filled("filled from it", fill(rows, 96));
 }
 
-static void print_mended(const char *what, size_t points)
-{
-    struct yakuemi_mended m = yakuemi_mend(SIZE, SIZE, SIZE, samples, points, cuts, sizeof cuts);
-    printf("%s: answer %u, filled in %lu, cleared %lu\n", what, (unsigned)m.number, (unsigned long)m.filled, (unsigned long)m.cleared);
-}
-
 /* The block as an old export: three bytes are missing, and byte 182 stands where no edge is. */
 static void print_mending(void)
 {
@@ -201,10 +200,10 @@ static void print_mending(void)
     cuts[91] = cuts[94] = cuts[216] = 0;
     cuts[182] = 7;
     print_filled("an old export", fill(rows, 96));
-    print_mended("mended with 34 samples", POINTS - 1);
-    print_mended("mended", POINTS);
+    print_mended("mended with 34 samples", 0, POINTS - 1);
+    print_mended("mended", 0, POINTS);
     printf("byte 91 is %u, byte 182 is %u\n", (unsigned)cuts[91], (unsigned)cuts[182]);
-    print_mended("mended again", POINTS);
+    print_mended("mended again", 0, POINTS);
     print_filled("filled", fill(rows, 96));
 }
 

@@ -42,6 +42,19 @@ unfoldable pub allEntered : List Entry → List ℕ → List ℕ
 allEntered [] table = table
 allEntered (e ∷ es) table = allEntered es (entered e table)
 
+-- the given case without a cut
+unfoldable pub uncut : Block
+uncut = blockOf givenSizes givenSamples (replicate (7 * points givenSizes) 0)
+
+-- a sample at a point, and samples with every one of a list replaced
+infix 70 _is_
+pub data Sample : Type 0 where
+  _is_ : ℕ → ℤ → Sample
+
+unfoldable pub allSampled : List Sample → List ℤ → List ℤ
+allSampled [] samples = samples
+allSampled ((p is z) ∷ more) samples = allSampled more (set samples p z)
+
 -- a change of the given block: none, a byte or some bytes of the cut table at values, or a sample at a value
 pub data Change : Type 0 where
   unchanged : Change

@@ -7,7 +7,7 @@ use Rattle.basics.specs.cases.Table.{Entry, _:=_}
 use Rattle.moving.specs.Block.{Block, blockOf}
 use Rattle.stencil.specs.Row.{row}
 use Rattle.casebook.specs.cases.Lent.{as-lent, codes, all-marked}
-use Rattle.casebook.specs.cases.Given.{givenSizes, givenSamples, givenCuts, unchanged, sample-at, changed, allEntered}
+use Rattle.casebook.specs.cases.Given.{givenSizes, givenSamples, givenCuts, unchanged, sample-at, changed, uncut, allEntered}
 use Rattle.casebook.specs.cases.Cases.{Case, banded, first-row, place-of, place-with, filled, too-short, refused, at, nowhere}
 
 -- point 13, the one that is rubber, at 0, and no cut left
@@ -24,9 +24,9 @@ marks =
     -- given case would be strays
     banded 0 withoutRubber 0 (filled 0 0) (codes (13 := 15 ∷ [])) (place-of 13 (at 512 512 512) ∷ [])
     ∷ banded 0 (changed (sample-at 13 (pos 0))) 100 (refused 7 30) as-lent []
-    -- band 5: every sample is in it. "A cut with an end coded 15 is refused by 8": P2's cut, id 126
+    -- by the band 4 the cut of byte 91, id 126, has its place; by the band 5 every sample is zero and, by F-9, no edge has a byte
     ∷ banded 4 (changed unchanged) 100 (filled 24 0) (codes []) (place-of 126 (at 768 512 512) ∷ [])
-    ∷ banded 5 (changed unchanged) 100 (filled 0 0) (codes (all-marked 35))
+    ∷ banded 5 uncut 100 (filled 0 0) (codes (all-marked 35))
     (place-of 0 (at 0 0 0) ∷ place-of 34 (at 768 768 768) ∷ place-of 126 (nowhere 8) ∷ [])
     -- a rim sample of 0: the row of P1 with point 27 in the place of its cut
     ∷ banded 0 (rimZero []) 96 (filled 24 0) (codes (27 := 15 ∷ []))

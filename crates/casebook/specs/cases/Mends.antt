@@ -1,49 +1,42 @@
--- Document 02, F-4: the given case with bytes missing and too many, and with samples of other sizes. The theorem is `mends-come-out` in
--- proofs/Cases.antt. Edges lead from point 13 to 14 (byte 91), 16, 22 and four centres (92 to 97), and to it from 12 (84), 10 (71), 4 (30)
--- and four centres (192, 200, 208, 216).
+-- Document 02, F-4: the given case with bytes missing and too many, and with samples of other sizes, without a noise band. The theorem is
+-- `mends-come-out` in proofs/Cases.antt; F-9's cases, with other bands, are in BandFirst. Edges lead from point 13 to 14 (byte 91), 16, 22
+-- and four centres (92 to 97), and to it from 12 (84), 10 (71), 4 (30) and four centres (192, 200, 208, 216).
 use Prim.Native.Nat.{ℕ, _*_}
 use mathlib.Core.List.{List, [], _∷_}
-use lib.IntN.{ℤ, pos, negℤ}
+use lib.IntN.{pos, negℤ}
 use lib.ListN.{replicate, set}
 use Rattle.basics.specs.cases.Table.{Entry, _:=_, tableOf}
 use Rattle.lattice.specs.Counts.{points}
 use Rattle.moving.specs.Block.{Block, blockOf}
 use Rattle.mending.specs.Mend.{Outcome}
-use Rattle.casebook.specs.cases.Given.{givenSizes, givenSamples, givenCuts, unchanged, bytes-at, sample-at, changed, allEntered}
+use Rattle.casebook.specs.cases.Given.{givenSizes, givenSamples, givenCuts, unchanged, bytes-at, sample-at, changed, uncut, allEntered}
+use Rattle.casebook.specs.cases.Given.{Sample, _is_, allSampled}
 
 pub record Mending : Type 0 where
+  pub band : ℕ
   pub block : Block
   pub outcome : Outcome
 
-abbrev answers : ℕ → Block → ℕ → ℕ → List ℕ → Mending
-answers n b f c cuts = record { block = b; outcome = record { answer = record { number = n; filled = f; cleared = c }; cuts = cuts } }
+abbrev answers : ℕ → ℕ → Block → ℕ → ℕ → List ℕ → Mending
+answers n band b f c cuts = record { band = band; block = b; outcome = record { answer = record { number = n; filled = f; cleared = c }; cuts = cuts } }
 
 -- so many bytes filled in, so many cleared, and this table
 abbrev mends : Block → ℕ → ℕ → List ℕ → Mending
-mends = answers 0
+mends = answers 0 0
 
-abbrev refuses : Block → ℕ → Mending
-refuses b n = answers n b 0 0 (b .cuts)
-
--- a sample at a point
-infix 70 _is_
-pub data Sample : Type 0 where
-  _is_ : ℕ → ℤ → Sample
-
-unfoldable pub sampled : List Sample → List ℤ
-sampled [] = givenSamples
-sampled ((p is z) ∷ more) = set (sampled more) p z
+abbrev refuses : ℕ → Block → ℕ → Mending
+refuses band b n = answers n band b 0 0 (b .cuts)
 
 -- the given case with these samples, its cut table emptied, and what is to be in it
 abbrev emptied : List Sample → ℕ → List Entry → Mending
 emptied samples f cuts =
     let n = 7 * points givenSizes in
-    mends (blockOf givenSizes (sampled samples) (replicate n 0)) f 0 (tableOf n cuts)
+    mends (blockOf givenSizes (allSampled samples givenSamples) (replicate n 0)) f 0 (tableOf n cuts)
 
 unfoldable pub mendings : List Mending
 mendings =
     -- "A missing byte becomes 256 times the start's sample size divided by the sum of both sizes": equal sizes give 128
-    mends (blockOf givenSizes givenSamples (replicate 245 0)) 14 0 givenCuts
+    mends uncut 14 0 givenCuts
     -- "Good bytes stay", whatever they are
     ∷ mends (changed unchanged) 0 0 givenCuts
     ∷ mends (changed (bytes-at (91 := 1 ∷ 92 := 255 ∷ 93 := 0 ∷ []))) 1 0 (allEntered (91 := 1 ∷ 92 := 255 ∷ []) givenCuts)
@@ -67,10 +60,12 @@ mendings =
     -- the rim is not tested: point 0, on the outside, is rubber, and its four edges have their bytes too
     ∷ mends (blockOf givenSizes (set givenSamples 0 (pos 5)) (replicate 245 0)) 18 0
     (allEntered (0 := 128 ∷ 1 := 128 ∷ 2 := 128 ∷ 3 := 128 ∷ []) givenCuts)
-    -- "Checks: 1, 2, 3", in this order; "A refusal changes nothing and gives two zeros"
-    ∷ refuses (blockOf (record { nx = 2; ny = 0; nz = 2 }) [] (replicate 3 9)) 1
-    ∷ refuses (blockOf (record { nx = 2; ny = 2; nz = 65 }) givenSamples (replicate 245 0)) 1
-    ∷ refuses (blockOf givenSizes (replicate 34 (pos 5)) (replicate 244 9)) 2
-    ∷ refuses (blockOf givenSizes givenSamples (replicate 244 9)) 3
-    ∷ refuses (blockOf givenSizes givenSamples (replicate 246 0)) 3
+    -- "Checks: 1, 2, 3", in this order, and F-9: "14 comes directly after 1"; "A refusal changes nothing and gives two zeros"
+    ∷ refuses 32768 (blockOf (record { nx = 2; ny = 0; nz = 2 }) [] (replicate 3 9)) 1
+    ∷ refuses 0 (blockOf (record { nx = 2; ny = 2; nz = 65 }) givenSamples (replicate 245 0)) 1
+    ∷ refuses 32768 (blockOf givenSizes (replicate 34 (pos 5)) (replicate 244 9)) 14
+    ∷ refuses 32768 (changed (bytes-at (91 := 0 ∷ []))) 14
+    ∷ refuses 32767 (blockOf givenSizes (replicate 34 (pos 5)) (replicate 244 9)) 2
+    ∷ refuses 0 (blockOf givenSizes givenSamples (replicate 244 9)) 3
+    ∷ refuses 0 (blockOf givenSizes givenSamples (replicate 246 0)) 3
     ∷ []

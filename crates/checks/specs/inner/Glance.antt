@@ -1,7 +1,7 @@
 -- What a glance at a point or at points of a line sees. Candidates for far ends stand a stride away, whether their edges
 -- exist or not.
 --     Calm       no candidate of a point is opposed to it
---     Level      no sample of five ranges is above zero, or none is below: by the band 0
+--     Level      no sample of five ranges is plus by a band, or none is minus
 --     Covers     where the five ranges of a line, or of a part of it, start: every candidate stands there or one number further
 use Prim.Native.Nat.{ℕ, _+_, _≤_, _<_}
 use mathlib.Core.Path.{_≡_}
@@ -18,8 +18,8 @@ pub record Calm (label : ℕ → Label) (p : ℕ) (ends : List ℕ) : Type 0 whe
   pub none : (d : ℕ) → d < 7 → opposed (label p) (label (getD ends d 0)) ≡ false
 
 -- none of the m + 1 samples from each start on
-pub record Level (plus : Bool) (samples : List ℤ) (starts : List ℕ) (m : ℕ) : Type 0 where
-  pub none : (k : ℕ) → k < 5 → (y : ℕ) → y ≤ m → hasLabel plus 0 (getD samples (getD starts k 0 + y) (pos 0)) ≡ false
+pub record Level (plus : Bool) (band : ℕ) (samples : List ℤ) (starts : List ℕ) (m : ℕ) : Type 0 where
+  pub none : (k : ℕ) → k < 5 → (y : ℕ) → y ≤ m → hasLabel plus band (getD samples (getD starts k 0 + y) (pos 0)) ≡ false
 
 -- the range that holds a number
 pub record Held (starts : List ℕ) (p : ℕ) : Type 0 where

@@ -2,7 +2,7 @@
 use reference::block::Block;
 use reference::damage::{Call, NodesCall, NodesOutcome};
 use reference::fill::Filled;
-use reference::generate::any_band;
+use reference::generate::{any_band, for_band_with_noise};
 use reference::lattice::Lattice;
 use reference::mend::Mended;
 use reference::metric::{place_mm, place_mm_plain};
@@ -35,8 +35,8 @@ pub fn fill(
 }
 
 /// The library's mending with the separate software's types.
-pub fn mend(nx: u32, ny: u32, nz: u32, samples: &[i16], cuts: &mut [u8]) -> Mended {
-    let m = yakuemi::raw::mend([nx, ny, nz], samples, cuts);
+pub fn mend(nx: u32, ny: u32, nz: u32, band: u32, samples: &[i16], cuts: &mut [u8]) -> Mended {
+    let m = yakuemi::raw::mend([nx, ny, nz], band, samples, cuts);
     Mended {
         number: m.number,
         filled: m.filled,
@@ -69,10 +69,11 @@ pub fn zero_or_any_band(random: &mut Random, block: &Block) -> u32 {
     }
 }
 
-/// A call that is not refused, with a row table of just the right length, half of the time without a band.
+/// A call that is not refused, with a row table of just the right length, half of the time without a band. With one the block is made
+/// valid with it, and has noise in it.
 pub fn good_call(random: &mut Random, block: Block) -> Call {
     let band = zero_or_any_band(random, &block);
-    Call::good(block, band, 0)
+    Call::good(for_band_with_noise(random, block, band), band, 0)
 }
 
 /// A call with an exact row table, and its T and M: they are asked for, with no room at all.
@@ -105,14 +106,14 @@ pub fn same_filling(call: &Call, seed: u64) -> Filled {
     ours.filled
 }
 
-/// Mends a block's cut table by both: answer and table are the same. Leaves the mended table in the block and gives the answer.
-pub fn same_mending(block: &mut Block) -> Mended {
+/// Mends a block's cut table by both, with a band: answer and table are the same. Leaves the mended table in the block and gives the answer.
+pub fn same_mending(block: &mut Block, band: u32) -> Mended {
     let Block { sizes: [nx, ny, nz], ref samples, ref mut cuts } = *block;
     let mut theirs = cuts.clone();
-    let ours = mend(nx, ny, nz, samples, cuts);
-    assert_eq!(ours, reference::mend::mend(nx, ny, nz, samples, &mut theirs), "{nx} by {ny} by {nz}");
+    let ours = mend(nx, ny, nz, band, samples, cuts);
+    assert_eq!(ours, reference::mend::mend(nx, ny, nz, band, samples, &mut theirs), "{nx} by {ny} by {nz}, band {band}");
     let differs = cuts.iter().zip(&theirs).position(|(ours, theirs)| ours != theirs);
-    assert_eq!(differs, None, "the byte that differs, {nx} by {ny} by {nz}");
+    assert_eq!(differs, None, "the byte that differs, {nx} by {ny} by {nz}, band {band}");
     ours
 }
 

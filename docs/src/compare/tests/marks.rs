@@ -8,6 +8,7 @@ use reference::check::check_mesh;
 use reference::damage::{Call, NodesCall, Outcome};
 use reference::fill::Filled;
 use reference::generate::{any_band, any_block, block, crowded_block, flickering_block, wide_band, Cutting, Mix};
+use reference::generate::{for_band, for_band_with_noise};
 use reference::lattice::Lattice;
 use reference::nodes::Numbered;
 use reference::plain::{ids_of_rows, move_points_by, nearest, unmarked};
@@ -42,7 +43,7 @@ struct Met {
     rim: [usize; 2],
     /// Marked points that are corners of rows.
     corners: usize,
-    /// Cut bytes with a marked end: the other marked, moved or at rest.
+    /// Bytes with a marked end that stood before the block was made valid with the band: the other marked, moved or at rest.
     beside: [usize; 3],
     /// Moved points, rows, and calls refused with 10 though points are marked.
     moved: u64,
@@ -51,12 +52,14 @@ struct Met {
 }
 
 impl Met {
-    /// Fills by both, into no table, an exact one, a longer one and one too short by one number, and counts. Gives what the library leaves.
-    fn fill(&mut self, block: Block, band: u32, random: &mut Random) -> (Block, Outcome) {
+    /// Makes a block that is valid at band 0 valid with the band, fills it by both, into no table, an exact one, a longer one and one too
+    /// short by one number, and counts. Gives the block and what the library leaves.
+    fn fill(&mut self, raw: &Block, band: u32, random: &mut Random) -> (Block, Outcome) {
+        let block = for_band_with_noise(random, raw.clone(), band);
         let (mut call, asked) = exact_call(block, band, random);
         let outcome = call.run(compare::fill, random);
         assert_eq!(outcome.filled, Filled { number: 0, ..asked });
-        let has_marks = self.count(&call, &outcome);
+        let has_marks = self.count(&call, &raw.cuts, &outcome);
         // refused with 10: no room at all, and too short by one
         self.short += if asked.number == 10 && has_marks { 2 } else { 0 };
         three_tables(&mut call, random);
@@ -64,8 +67,8 @@ impl Met {
     }
 
     /// The library's state bytes are 15 exactly where the label is zero from the start. Says whether some are.
-    fn count(&mut self, call: &Call, outcome: &Outcome) -> bool {
-        let (Block { samples, cuts, .. }, state) = (&call.block, &outcome.state);
+    fn count(&mut self, call: &Call, cuts: &[u8], outcome: &Outcome) -> bool {
+        let (samples, state) = (&call.block.samples, &outcome.state);
         let lattice = call.block.lattice().unwrap();
         let corners: HashSet<u32> = outcome.rows.iter().copied().collect();
         let mut moved = 0;
@@ -117,7 +120,7 @@ fn marked_blocks(seed: u64, blocks: fn(&mut Random, u32) -> Block) {
     for n in 0..4000 {
         let block = blocks(&mut random, 5);
         let band = band_of(n, &mut random, &block);
-        let (block, outcome) = met.fill(block, band, &mut random);
+        let (block, outcome) = met.fill(&block, band, &mut random);
         check_beside_before(&block, band, &outcome);
     }
     println!("{met:?}");
@@ -153,15 +156,16 @@ fn own_place(lattice: &Lattice, point: usize) -> [u32; 3] {
     lattice.coordinates(point).map(|coordinate| 256 * coordinate as u32)
 }
 
-/// Filled blocks of sizes up to 5 with their state tables and rows.
+/// Blocks of sizes up to 5 that are valid at band 0, with the state tables and rows of their fillings with a band. So there are bytes beside
+/// marked points, which only filling refuses.
 fn filled_blocks(seed: u64, count: usize) -> impl Iterator<Item = (Block, Outcome, Random)> {
     let mut random = Random::new(seed);
     (0..count).map(move |n| {
         let block = [any_block, crowded_block, flickering_block][n % 3](&mut random, 5);
         let band = band_of(n, &mut random, &block);
-        let (call, _) = exact_call(block, band, &mut random);
+        let (call, _) = exact_call(for_band(block.clone(), band), band, &mut random);
         let outcome = call.run(compare::fill, &mut random);
-        (call.block, outcome, Random::new(random.bits()))
+        (block, outcome, Random::new(random.bits()))
     })
 }
 
@@ -333,7 +337,7 @@ fn whole_parts() {
     let mut met = Met::default();
     for part in [sphere(), ribs(), mount()] {
         for band in [0, 3, tenth_band(&part)] {
-            let (_, outcome) = met.fill(part.clone(), band, &mut random);
+            let (_, outcome) = met.fill(&part, band, &mut random);
             assert!(outcome.filled.rows > 0);
         }
     }
@@ -349,7 +353,7 @@ fn largest_blocks() {
     let mut met = Met::default();
     for (mix, band) in [(Mix::Zeros, 0), (Mix::Even, 0), (Mix::Even, 9_000), (Mix::Dense, 20_000)] {
         let given = block(&mut random, [64; 3], mix, Cutting::Wild);
-        let (block, outcome) = met.fill(given, band, &mut random);
+        let (block, outcome) = met.fill(&given, band, &mut random);
         let (lattice, Outcome { state, rows, .. }) = (block.lattice().unwrap(), outcome);
         for point in 0..state.len() as u32 {
             assert_eq!(same_place(block.sizes, &block.cuts, &state, point), 0);
@@ -376,16 +380,19 @@ fn given_case_in_numbers() {
     for (sample, byte, band) in [(0, 0, 0), (-2, 128, 2), (-1, 63, 4)] {
         let mut given = Block::given_case();
         (given.samples[27], given.cuts[192]) = (sample, byte);
-        let (block, Outcome { filled, state, rows }) = met.fill(given, band, &mut random);
+        let (block, Outcome { filled, state, rows }) = met.fill(&given, band, &mut random);
         assert_eq!((filled.rows, filled.moved, &rows[..4]), (24, 0, &[13, 65, 235, 27][..]));
         assert!((0..35).all(|point| state[point] == if point == 27 { 15 } else { 0 }));
         assert_eq!(place_of(&block, &state, 27), [256; 3]);
-        for (id, number) in [(27, 0), (35 + 192, 8), (35 + 91, 0)] {
-            assert_eq!(same_place(block.sizes, &block.cuts, &state, id), number, "id {id}");
+        for cuts in [given.cuts, block.cuts] {
+            for (id, number) in [(27, 0), (35 + 192, 8), (35 + 91, 0)] {
+                assert_eq!(same_place(block.sizes, &cuts, &state, id), number, "id {id}");
+            }
         }
     }
     // everything in the band: all points are marked and no cut has a place
-    let (block, Outcome { filled, state, .. }) = met.fill(Block::given_case(), 5, &mut random);
+    let block = Block::given_case();
+    let (_, Outcome { filled, state, .. }) = met.fill(&block, 5, &mut random);
     assert_eq!((filled.rows, filled.moved, &state[..]), (0, 0, &[15; 35][..]));
     for id in 0..280 {
         assert_eq!(same_place(block.sizes, &block.cuts, &state, id), if id < 35 { 0 } else { 8 }, "id {id}");

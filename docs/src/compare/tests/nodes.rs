@@ -6,7 +6,7 @@ use compare::{disturb, same_numbering, zero_or_any_band};
 use reference::block::Block;
 use reference::blockfile::fill_block;
 use reference::damage::{nodes_call, NodesCall, NodesOutcome};
-use reference::generate::{any_block, block, crowded_block, CUTTINGS, MIXES};
+use reference::generate::{any_block, block, crowded_block, for_band, CUTTINGS, MIXES};
 use reference::lattice::Lattice;
 use reference::nodes::Numbered;
 use reference::random::Random;
@@ -155,10 +155,13 @@ fn calls_of_every_kind() {
     assert!(nodes.iter().all(|&nodes| nodes > 18_000) && entries > 700_000, "{met:?}");
 }
 
-/// A block with the rows and the state table of its filling, without a node table.
+/// A block with the rows and the state table of its filling, without a node table. With a band it is filled without the bytes beside the
+/// band, and they are in the call all the same.
 fn filled(block: Block, band: u32) -> NodesCall {
+    let cuts = block.cuts.clone();
+    let block = for_band(block, band);
     let tables = fill_block(&block, band);
-    let Block { sizes, cuts, .. } = block;
+    let sizes = block.sizes;
     NodesCall { sizes, cuts, state: tables.state, rows: tables.rows, nodes: Vec::new() }
 }
 

@@ -248,7 +248,7 @@ fn samples_of_the_full_range() {
             points.into_iter().for_each(|point| samples[point] = -samples[point]);
         }
         let (low, high) = random.pick(&[(1, 255), (80, 175), (104, 151), (106, 150)]);
-        let mut cuts = cuts_where_needed(&lattice, &samples, |_, _| random.between(low, high) as u8);
+        let mut cuts = cuts_where_needed(&lattice, 0, &samples, |_, _| random.between(low, high) as u8);
         if n % 8 == 6 {
             let at = random.below(cuts.len());
             cuts[at] = if cuts[at] == 0 { random.between(1, 255) as u8 } else { 0 };

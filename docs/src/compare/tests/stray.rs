@@ -26,7 +26,7 @@ fn check(call: &mut Call, strays: &[(usize, u8)], random: &mut Random) {
         call.block.cuts[offset] = byte;
     }
     assert_eq!(same_filling(call, random.bits()), Filled::refused(STRAY, strays[0].0), "{strays:?}");
-    assert_eq!(same_mending(&mut call.block), Mended { number: 0, filled: 0, cleared: strays.len() as u64 }, "{strays:?}");
+    assert_eq!(same_mending(&mut call.block, call.band), Mended { number: 0, filled: 0, cleared: strays.len() as u64 }, "{strays:?}");
     assert!(call.block.cuts == good, "{strays:?}");
 }
 

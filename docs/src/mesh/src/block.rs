@@ -29,9 +29,9 @@ pub fn read(file: &[u8]) -> Result<Block, Refusal> {
     Ok(Block { sizes: reading.sizes, samples, cuts })
 }
 
-/// Mends the cut table of a block: fills in what is missing and clears what is stray.
-pub fn mend(block: &mut Block) -> Result<Mending, Refusal> {
-    yakuemi::mend(block.sizes, &block.samples, &mut block.cuts)
+/// Mends the cut table of a block with a noise band: fills in what is missing and clears what is stray.
+pub fn mend(block: &mut Block, band: u32) -> Result<Mending, Refusal> {
+    yakuemi::mend(block.sizes, band, &block.samples, &mut block.cuts)
 }
 
 /// The state table and the rows of a filled block.

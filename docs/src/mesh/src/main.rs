@@ -13,8 +13,9 @@ usage: mesh FILE OUT           a block file's mesh in cubes, as OUT.vtk, OUT.msh
        mesh --picture FILE PNG a picture of a block file's mesh, cut open
        mesh --part FILE        writes the block file of a part to try: an engine mount
 With --band N before FILE, samples of size N or less count as zero: N is the scanner's flicker, 0 to 32767.
-With --mend before FILE, the cut table of an old export is mended before the block is filled: one more line says how many
-bytes were missing and are filled in, and how many were stray and are cleared. FILE stays as it is.
+With --mend before FILE, the cut table is mended before the block is filled, by the same band: one more line says how many bytes
+were missing and are filled in, and how many were stray and are cleared. FILE stays as it is. An old export wants it, and so does
+one of a scanner that knows of no band, as it has cuts beside samples that count as zero.
 A block, a band or a unit that the library refuses is answered with `refused`, number and place, and exit code 1.
 ";
 
@@ -77,11 +78,12 @@ fn band_of(number: &str) -> Option<u32> {
 /// What was mended is said at once, so that it is known also where the mended block is refused.
 fn read_mesh(file: &str, said: Options) -> Result<Mesh, Box<dyn Error>> {
     let mut block = block::read(&fs::read(file)?)?;
+    let band = said.band.unwrap_or(0);
     if said.mend {
-        let Mending { filled, cleared } = block::mend(&mut block)?;
+        let Mending { filled, cleared } = block::mend(&mut block, band)?;
         println!("mended: {filled} filled in, {cleared} cleared");
     }
-    Ok(block::mesh_of(&block, said.band.unwrap_or(0), said.unit.unwrap_or(CUBES))?)
+    Ok(block::mesh_of(&block, band, said.unit.unwrap_or(CUBES))?)
 }
 
 fn write_mesh(file: &str, out: &str, said: Options) -> Done {

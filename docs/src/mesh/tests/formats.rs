@@ -3,7 +3,7 @@
 use mesh::{abaqus, block, gmsh, vtk, Mesh, Point, CUBES};
 use reference::block::Block;
 use reference::blockfile::{fill_block, write};
-use reference::generate::{any_band, any_block, block, wide_band, CUTTINGS, MIXES};
+use reference::generate::{any_band, any_block, block, for_band, wide_band, CUTTINGS, MIXES};
 use reference::random::Random;
 use reference::shapes::{mount, sphere, tenth_band};
 use std::collections::{BTreeSet, HashSet};
@@ -42,7 +42,7 @@ fn small_blocks_with_a_band() {
     for n in 0..200 {
         let given = any_block(&mut random, 5);
         let band = [any_band, wide_band][n % 2](&mut random, &given);
-        filled += usize::from(!checked(&given, band).elements.is_empty());
+        filled += usize::from(!checked(&for_band(given, band), band).elements.is_empty());
     }
     assert!(filled > 50, "{filled}");
 }
@@ -59,7 +59,7 @@ fn long_blocks() {
 #[test]
 fn the_mount() {
     let (mount, band) = (mount(), tenth_band(&mount()));
-    let [mesh, banded] = [0, band].map(|band| checked(&mount, band));
+    let [mesh, banded] = [0, band].map(|band| checked(&for_band(mount.clone(), band), band));
     assert!(mesh.elements.len() > 50_000 && banded.elements.len() > 20_000);
 }
 

@@ -2,7 +2,7 @@
 use mesh::{abaqus, block, gmsh, view, vtk, Mesh, CUBES};
 use reference::block::Block;
 use reference::blockfile::{fill_block, write};
-use reference::generate::{block, Cutting, MIXES};
+use reference::generate::{block, for_band, Cutting, MIXES};
 use reference::random::Random;
 use reference::shapes::{emptied, mount, tenth_band};
 use std::collections::BTreeSet;
@@ -87,14 +87,45 @@ fn writes_millimetres_in_words() {
     assert!(holds("out.inp", "*NODE, NSET=NALL\n1, 51.2, 51.2, 51.2\n"));
 }
 
-/// The given case's samples are 5 and -5.
+/// The given case's samples are 5 and -5: by the band 5 its cut bytes are all strays, which mending clears.
 #[test]
 fn fills_with_a_band() {
     let folder = folder("band");
     fs::write(folder.join("given"), write(&Block::given_case()).unwrap()).unwrap();
-    for (band, line) in [("0", "15 nodes, 24"), ("4", "15 nodes, 24"), ("5", "0 nodes, 0"), ("32767", "0 nodes, 0")] {
+    for (band, cleared, line) in [("0", 0, "15 nodes, 24"), ("4", 0, "15 nodes, 24"), ("5", 14, "0 nodes, 0"), ("32767", 14, "0 nodes, 0")] {
         let line = format!("{line} tetrahedra\n");
-        assert_eq!(run(&folder, &["--band", band, "given", "out"]), (line, Some(0)), "{band}");
+        let filled = if cleared == 0 { (line.clone(), Some(0)) } else { ("refused 7 30\n".to_string(), Some(1)) };
+        assert_eq!(run(&folder, &["--band", band, "given", "out"]), filled, "{band}");
+        let mended = (format!("mended: 0 filled in, {cleared} cleared\n{line}"), Some(0));
+        assert_eq!(run(&folder, &["--mend", "--band", band, "given", "out"]), mended, "{band}");
+    }
+}
+
+/// The mount with a band that takes in a tenth of its points, without the cut bytes that are strays by it; the band, and where they were.
+fn banded_mount() -> (Block, u32, Vec<usize>) {
+    let scanned = mount();
+    let band = tenth_band(&scanned);
+    let block = for_band(mount(), band);
+    let strays: Vec<usize> = (0..scanned.cuts.len()).filter(|&offset| block.cuts[offset] != scanned.cuts[offset]).collect();
+    assert!(!strays.is_empty());
+    (block, band, strays)
+}
+
+/// The mount as a scanner without a band wrote it is refused with one, and mended it is filled as the mount without those strays.
+#[test]
+fn mends_with_a_band() {
+    let folder = folder("mended band");
+    let (banded, band, strays) = banded_mount();
+    fs::write(folder.join("scanned"), write(&mount()).unwrap()).unwrap();
+    fs::write(folder.join("banded"), write(&banded).unwrap()).unwrap();
+    let said = &band.to_string()[..];
+    let (line, code) = run(&folder, &["--band", said, "banded", "out"]);
+    let good = taken(&folder);
+    assert_eq!(code, Some(0));
+    assert_eq!(run(&folder, &["--band", said, "scanned", "out"]), (format!("refused 7 {}\n", strays[0]), Some(1)));
+    for arguments in [["--band", said, "--mend", "scanned", "out"], ["--mend", "--band", said, "scanned", "out"]] {
+        assert_eq!(run(&folder, &arguments), (format!("mended: 0 filled in, {} cleared\n{line}", strays.len()), Some(0)));
+        assert!(taken(&folder) == good);
     }
 }
 
@@ -103,10 +134,10 @@ fn fills_with_a_band() {
 #[test]
 fn fills_a_part_with_a_band() {
     let folder = folder("banded");
-    let (mount, file) = (mount(), write(&mount()).unwrap());
-    let band = tenth_band(&mount);
+    let (mount, band, _) = banded_mount();
+    let file = write(&mount).unwrap();
     let tables = fill_block(&mount, band);
-    assert!(tables.rows != fill_block(&mount, 0).rows);
+    assert!(tables.rows != fill_block(&reference::shapes::mount(), 0).rows);
     let nodes = BTreeSet::from_iter(&tables.rows).len();
     let line = format!("{nodes} nodes, {} tetrahedra\n", tables.rows.len() / 4);
     fs::write(folder.join("mount"), &file).unwrap();
@@ -152,27 +183,32 @@ fn mends_an_old_export() {
     }
 }
 
-/// The mount as an old export, without its cut bytes and with strays, and the line that says what was mended.
-fn old_mount() -> (Block, String) {
+/// The mount as an old export, without its cut bytes and with strays, and how many there are of each.
+fn old_mount() -> (Block, usize, usize) {
     let (good, mut old) = (mount(), emptied(mount()));
     let strays = (0..good.cuts.len()).filter(|&offset| good.cuts[offset] == 0).step_by(1000);
     let cleared = strays.map(|offset| old.cuts[offset] = 128).count();
     let filled = good.cuts.iter().filter(|&&byte| byte != 0).count();
-    (old, format!("mended: {filled} filled in, {cleared} cleared\n"))
+    (old, filled, cleared)
 }
 
-/// As the mount's own cuts are straight-line guesses, its files come out the same, whichever option comes first.
+/// As the mount's own cuts are straight-line guesses, its files come out the same, whichever option comes first, and with a band as those
+/// of the mount without the cuts beside it.
 #[test]
 fn mends_a_part() {
     let folder = folder("old part");
-    let band = &tenth_band(&mount()).to_string()[..];
-    let (old, mended) = old_mount();
+    let (block, band, strays) = banded_mount();
+    let (fewer, band) = (strays.len(), &band.to_string()[..]);
+    let (old, filled, cleared) = old_mount();
     fs::write(folder.join("good"), write(&mount()).unwrap()).unwrap();
+    fs::write(folder.join("banded"), write(&block).unwrap()).unwrap();
     fs::write(folder.join("old"), write(&old).unwrap()).unwrap();
     let (unit, banded): (&[&str], &[&str]) = (&["--unit", "0.1"], &["--band", band]);
-    let choices: [&[&[&str]]; 4] = [&[], &[unit], &[banded], &[unit, banded]];
-    for options in choices {
-        let (line, code) = run(&folder, &[&options.concat(), &["good", "out"][..]].concat());
+    let choices: [(&[&[&str]], &str, usize); 4] =
+        [(&[], "good", 0), (&[unit], "good", 0), (&[banded], "banded", fewer), (&[unit, banded], "banded", fewer)];
+    for (options, name, fewer) in choices {
+        let mended = format!("mended: {} filled in, {cleared} cleared\n", filled - fewer);
+        let (line, code) = run(&folder, &[&options.concat(), &[name, "out"][..]].concat());
         let good = taken(&folder);
         assert_eq!(code, Some(0));
         for at in 0..=options.len() {
@@ -204,7 +240,7 @@ fn leaves_good_files_alone() {
     assert!(filled > 6, "{filled}");
 }
 
-/// Mending does not see to the rim, the band or the unit, and a file that cannot be read is not mended.
+/// Mending does not see to the rim or the unit, and neither a file that cannot be read nor one with too large a band is mended.
 #[test]
 fn says_why_a_mended_block_is_refused_and_writes_nothing() {
     let folder = folder("mended refused");
@@ -220,8 +256,8 @@ fn says_why_a_mended_block_is_refused_and_writes_nothing() {
     let [gap, rim] = [gap, rim].map(|block| write(&block).unwrap());
     let cases: [(&[u8], &[&str], &str); 6] = [
         (&rim, &[], "mended: 10 filled in, 1 cleared\nrefused 5 27\n"),
-        (&rim, &["--band", "5"], "mended: 10 filled in, 1 cleared\nrefused 5 27\n"),
-        (&gap, &["--band", "32768"], "mended: 1 filled in, 0 cleared\nrefused 14 0\n"),
+        (&rim, &["--band", "0"], "mended: 10 filled in, 1 cleared\nrefused 5 27\n"),
+        (&gap, &["--band", "32768"], "refused 14 0\n"),
         (&gap, &["--unit", "0"], "mended: 1 filled in, 0 cleared\nrefused 13 0\n"),
         (&size, &[], "refused 1 0\n"),
         (&short, &[], "refused 11 0\n"),
@@ -311,9 +347,10 @@ fn says_that_a_band_is_refused_and_writes_nothing() {
         }
     }
     fs::write(folder.join("file"), write(&gap).unwrap()).unwrap();
-    assert_eq!(run(&folder, &["--band", "5", "file", "out"]), ("refused 6 91\n".to_string(), Some(1)));
+    assert_eq!(run(&folder, &["--band", "4", "file", "out"]), ("refused 6 91\n".to_string(), Some(1)));
+    assert_eq!(run(&folder, &["--band", "5", "file", "out"]), ("refused 7 30\n".to_string(), Some(1)));
     fs::write(folder.join("file"), write(&given).unwrap()).unwrap();
-    assert_eq!(run(&folder, &["--unit", "0", "--band", "5", "file", "out"]), ("refused 13 0\n".to_string(), Some(1)));
+    assert_eq!(run(&folder, &["--unit", "0", "--band", "4", "file", "out"]), ("refused 13 0\n".to_string(), Some(1)));
     assert_eq!(fs::read_dir(&folder).unwrap().count(), 1);
 }
 
@@ -380,8 +417,8 @@ fn the_picture_is_the_tools_own() {
 #[test]
 fn draws_with_a_band() {
     let folder = folder("banded picture");
-    let (mount, file) = (mount(), write(&mount()).unwrap());
-    let band = tenth_band(&mount);
+    let (mount, band, _) = banded_mount();
+    let file = write(&mount).unwrap();
     let mesh = block::mesh_of_file(&file, band, CUBES).unwrap();
     let line = format!("{} faces\n", view::cut_open(&mesh, view::quarter_away(&mesh)).len());
     fs::write(folder.join("mount"), &file).unwrap();
@@ -395,12 +432,13 @@ fn draws_with_a_band() {
 #[test]
 fn draws_what_it_mended() {
     let folder = folder("mended picture");
-    let (old, mended) = old_mount();
+    let (old, filled, cleared) = old_mount();
     fs::write(folder.join("old"), write(&old).unwrap()).unwrap();
-    assert_eq!(run(&folder, &["--mend", "--picture", "old", "mesh.png"]), (format!("{mended}11586 faces\n"), Some(0)));
+    let lines = format!("mended: {filled} filled in, {cleared} cleared\n11586 faces\n");
+    assert_eq!(run(&folder, &["--mend", "--picture", "old", "mesh.png"]), (lines, Some(0)));
     let kept = PathBuf::from(env!("CARGO_MANIFEST_DIR")).join("../../mesh.png");
     assert!(fs::read(folder.join("mesh.png")).unwrap() == fs::read(kept).unwrap());
-    // by this band no rubber is left, whatever was mended
+    // by this band no rubber is left, and no edge crosses
     let arguments = ["--picture", "--band", "32767", "--mend", "old", "nothing.png"];
-    assert_eq!(run(&folder, &arguments), (format!("{mended}0 faces\n"), Some(0)));
+    assert_eq!(run(&folder, &arguments), (format!("mended: 0 filled in, {cleared} cleared\n0 faces\n"), Some(0)));
 }

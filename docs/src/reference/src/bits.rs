@@ -1,8 +1,8 @@
 //! Bits instead of points and bytes, for the fast mending.
 //!
-//! Which edges of a line must be cut (document 01, "The block") comes out of
-//! the signs along it and along the lines where its edges end, a bit for each
-//! point, all points of a line together. Bytes of the cut table are looked at
+//! Which edges of a line must be cut (document 01, "The block", and request F-9
+//! of document 02) comes out of the labels' signs along it and along the lines
+//! where its edges end, a bit for each point, all points of a line together. Bytes of the cut table are looked at
 //! in groups of eight points, 56 bytes, and there a bit stands for each byte.
 
 use crate::strides::{Ahead, Line, LONGEST_LINE};
@@ -13,21 +13,22 @@ pub const GROUP: usize = 8;
 /// The bytes of a group.
 pub const GROUP_BYTES: usize = 7 * GROUP;
 
-/// The signs of the samples along a line: bit n is that of point n.
+/// The signs of the labels along a line: bit n is that of point n.
 #[derive(Clone, Copy, Debug, PartialEq, Eq)]
 pub struct Signs {
-    /// The samples above zero.
+    /// The labels that are plus.
     pub plus: u128,
-    /// The samples below zero.
+    /// The labels that are minus.
     pub minus: u128,
 }
 
 impl Signs {
-    /// The signs of the samples of one line.
-    pub fn of(samples: &[i16]) -> Signs {
+    /// The signs of the labels of one line, from its samples and the band, which
+    /// is 0 to 32767.
+    pub fn of(band: i16, samples: &[i16]) -> Signs {
         Signs {
-            plus: bits_of(samples, |sample| sample > 0),
-            minus: bits_of(samples, |sample| sample < 0),
+            plus: bits_of(samples, |sample| sample > band),
+            minus: bits_of(samples, |sample| sample < -band),
         }
     }
 
@@ -123,20 +124,29 @@ pub fn cuts_of_group(bytes: &[u8]) -> u64 {
 mod tests {
     use super::*;
     use crate::lattice::Lattice;
+    use crate::plain::label;
     use crate::random::Random;
     use crate::strides::Grids;
 
+    /// Bands, and samples at both ends of each and beside them.
+    const BANDS: [u32; 5] = [0, 1, 5, 32766, 32767];
+    const SAMPLES: [i16; 13] = [
+        -32768, -32767, -32766, -6, -5, -2, -1, 0, 1, 5, 6, 32766, 32767,
+    ];
+
     #[test]
-    fn signs_are_those_of_samples() {
+    fn signs_are_those_of_labels() {
         let mut random = Random::new(1);
         for length in 1..=LONGEST_LINE {
-            let any = |_| random.pick(&[-32768, -1, 0, 1, 32767]);
-            let samples: Vec<i16> = (0..length).map(any).collect();
-            let signs = Signs::of(&samples);
-            for n in 0..128 {
-                let sign = samples.get(n).map_or(0, |sample| sample.signum());
-                assert_eq!(signs.plus >> n & 1 == 1, sign == 1);
-                assert_eq!(signs.minus >> n & 1 == 1, sign == -1);
+            for band in BANDS {
+                let any = |_| random.pick(&SAMPLES);
+                let samples: Vec<i16> = (0..length).map(any).collect();
+                let signs = Signs::of(band as i16, &samples);
+                for n in 0..128 {
+                    let sign = samples.get(n).map_or(0, |&sample| label(band, sample));
+                    assert_eq!(signs.plus >> n & 1 == 1, sign == 1);
+                    assert_eq!(signs.minus >> n & 1 == 1, sign == -1);
+                }
             }
         }
     }
@@ -162,23 +172,30 @@ mod tests {
         let mut random = Random::new(3);
         for sizes in [[1, 1, 1], [3, 1, 2], [7, 2, 3], [8, 3, 1], [64, 2, 2]] {
             let lattice = Lattice::new(sizes[0], sizes[1], sizes[2]).unwrap();
-            let grids = Grids::new(&lattice);
-            let any = |_| random.pick(&[-32768, -1, 0, 1, 32767]);
+            let any = |_| random.pick(&SAMPLES);
             let samples: Vec<i16> = (0..lattice.point_count()).map(any).collect();
-            let of_line = |line: Line| Signs::of(&samples[line.first..line.first + line.count()]);
-            let signs: Vec<Signs> = grids.lines().map(of_line).collect();
-            for line in grids.lines() {
-                let needs = needs_of_line(&line, &signs);
-                for index in 0..128 {
-                    let need = |direction: usize| {
-                        let end = lattice.end(line.first + index, direction);
-                        let end = end.map_or(0, |end| samples[end].signum());
-                        samples[line.first + index].signum() * end < 0
-                    };
-                    for (direction, needs) in needs.iter().enumerate() {
-                        let expected = index < line.count() && need(direction);
-                        assert_eq!(needs >> index & 1 == 1, expected);
-                    }
+            for band in BANDS {
+                check_needs(&lattice, band, &samples);
+            }
+        }
+    }
+
+    fn check_needs(lattice: &Lattice, band: u32, samples: &[i16]) {
+        let grids = Grids::new(lattice);
+        let own = |line: Line| &samples[line.first..line.first + line.count()];
+        let signs = grids.lines().map(|line| Signs::of(band as i16, own(line)));
+        let signs: Vec<Signs> = signs.collect();
+        for line in grids.lines() {
+            let needs = needs_of_line(&line, &signs);
+            for index in 0..128 {
+                let need = |direction: usize| {
+                    let end = lattice.end(line.first + index, direction);
+                    let end = end.map_or(0, |end| label(band, samples[end]));
+                    label(band, samples[line.first + index]) * end < 0
+                };
+                for (direction, needs) in needs.iter().enumerate() {
+                    let expected = index < line.count() && need(direction);
+                    assert_eq!(needs >> index & 1 == 1, expected);
                 }
             }
         }

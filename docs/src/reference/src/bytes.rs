@@ -2,9 +2,8 @@
 //!
 //! Follows document 01, "The block" (which bytes must be non-zero) and
 //! "Calls and refusals" (5, then the lowest byte that is a 6 or a 7), and
-//! request F-3 of document 02: a band makes labels zero, but "the rim and
-//! cut-byte tests go on reading raw samples". So both tests want the labels of
-//! band 0, which are the raw signs.
+//! requests F-3 and F-9 of document 02: a band makes labels zero, and "rim and
+//! cut-byte tests read labels".
 //!
 //! Everything goes line by line. The bytes of a line of which no edge must be
 //! cut must all be zero, and are tested by eights, as request F-5 says: "test
@@ -38,13 +37,12 @@ pub struct WrongByte {
 
 /// Reads the labels of all points: zero for a sample whose size is at most the
 /// band, which is 0 to 32767. So -32768 is never zero.
-pub fn read_labels(band: i16, samples: &[i16], labels: &mut Vec<u8>) {
+pub fn read_labels(band: i16, samples: &[i16]) -> Vec<u8> {
     let label = |&sample: &i16| u8::from(sample > band) * PLUS + u8::from(sample < -band) * MINUS;
-    labels.clear();
-    labels.extend(samples.iter().map(label));
+    samples.iter().map(label).collect()
 }
 
-/// The lowest rim point with a raw sign of plus.
+/// The lowest rim point whose label is plus.
 pub fn lowest_plus_on_rim(grids: &Grids, labels: &[u8]) -> Option<usize> {
     for line in grids.lines() {
         let own = &labels[line.first..line.first + line.count()];
@@ -63,7 +61,7 @@ pub fn lowest_plus_on_rim(grids: &Grids, labels: &[u8]) -> Option<usize> {
     None
 }
 
-/// Tests every cut byte by the raw signs and answers the marks of all points,
+/// Tests every cut byte by the labels and answers the marks of all points,
 /// or no marks at all if the block has no cuts.
 pub fn test_cuts(grids: &Grids, labels: &[u8], cuts: &[u8]) -> Result<Vec<u32>, WrongByte> {
     let mut marks = Vec::new();

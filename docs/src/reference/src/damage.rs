@@ -2,20 +2,24 @@
 //! the node table of all kinds.
 //!
 //! Each refusal of filling (document 01, "Calls and refusals": 1 to 7 and 10;
-//! document 02, request F-3: 14) has one kind of damage, and mending (request
-//! F-4) shares the first of them. Several damages can be done to one call, to
-//! see in which order the refusals come. The node table (request F-6) is asked
-//! of any row table, so its calls are good ones and others alike; state byte 15
-//! (request F-8) is put in both ways, at points in use and beside cuts in use.
+//! document 02, request F-3: 14) has one kind of damage, and mending (requests
+//! F-4 and F-9) shares the first of them. Several damages can be done to one
+//! call, to see in which order the refusals come; and there are calls with bands
+//! of which only some must be refused, with noise and bytes in and beside the
+//! band (request F-9). The node table (request F-6) is asked of any row table, so
+//! its calls are good ones and others alike; state byte 15 (request F-8) is put in
+//! both ways, at points in use and beside cuts in use.
 
 use crate::block::Block;
 use crate::blockfile::fill_block;
-use crate::fill::Filled;
-use crate::generate::{any_band, any_block, crowded_block, flickering_block, LIMIT_BYTES};
+use crate::fill::{Filled, LARGEST_BAND};
+use crate::generate::{any_band, any_block, crowded_block, flickering_block, wide_band};
+use crate::generate::{for_band, for_band_with_noise, LIMIT_BYTES};
 use crate::lattice::Lattice;
 use crate::nodes::{Numbered, Numbering};
 use crate::place::place;
 use crate::plain;
+use crate::plain::label;
 use crate::random::Random;
 use crate::refusal;
 use crate::shapes;
@@ -47,7 +51,7 @@ pub enum Damage {
     Cuts,
     /// The same with the state table.
     State,
-    /// A rim sample is above zero.
+    /// A rim sample is above the band.
     Rim,
     /// A byte is zero that must not be.
     Gap,
@@ -72,7 +76,7 @@ pub const DAMAGES: [Damage; 9] = [
 ];
 
 /// The damages that mending refuses, in the order in which it finds them.
-pub const MEND_DAMAGES: [Damage; 3] = [Damage::Size, Damage::Samples, Damage::Cuts];
+pub const MEND_DAMAGES: [Damage; 4] = [Damage::Size, Damage::Band, Damage::Samples, Damage::Cuts];
 
 impl Damage {
     /// The refusal of a call with only this damage.
@@ -102,7 +106,8 @@ pub struct Outcome {
     pub rows: Vec<u32>,
 }
 
-/// A filling: [`crate::fill::fill`] or [`crate::plain::fill`].
+/// A filling: [`crate::fill::fill`] or [`crate::plain::fill`], or the one before
+/// request F-9.
 pub type Filling = fn(u32, u32, u32, u32, &[i16], &[u8], &mut [u8], &mut [u32]) -> Filled;
 
 impl Call {
@@ -150,16 +155,14 @@ impl Call {
                 let bad = random.pick(&[0, 65, 66, 255, 256, 1 << 16, u32::MAX]);
                 self.block.sizes[random.below(3)] = bad;
             }
-            Damage::Band => {
-                self.band = random.pick(&[32768, 32769, 65535, 65536, 1 << 31, u32::MAX]);
-            }
+            Damage::Band => self.band = random.pick(&BAD_BANDS),
             Damage::Samples => spoil_length(random, &mut self.block.samples, -1),
             Damage::Cuts => spoil_length(random, &mut self.block.cuts, 0),
             Damage::State => {
                 let n = self.state_length;
                 self.state_length = random.pick(&[0, n - 1, n + 1, 7 * n]);
             }
-            Damage::Rim => self.spoil_rim(random, lattice),
+            Damage::Rim => return self.spoil_rim(random, lattice),
             Damage::Gap => return self.spoil_byte(random, lattice, true),
             Damage::Stray => return self.spoil_byte(random, lattice, false),
             Damage::Table => {
@@ -174,26 +177,39 @@ impl Call {
         true
     }
 
-    fn spoil_rim(&mut self, random: &mut Random, lattice: &Lattice) {
+    /// The band by which a block is valid or not, 0 if the call's own is none.
+    fn band_of_labels(&self) -> u32 {
+        match self.band {
+            band @ 0..=LARGEST_BAND => band,
+            _ => 0,
+        }
+    }
+
+    /// Makes a rim point plus, with a sample just above the band or the largest.
+    fn spoil_rim(&mut self, random: &mut Random, lattice: &Lattice) -> bool {
+        let band = self.band_of_labels();
+        if band == LARGEST_BAND {
+            return false;
+        }
         let samples = &mut self.block.samples;
         let rim = (0..samples.len().min(lattice.point_count())).filter(|&p| lattice.is_rim(p));
         let rim: Vec<usize> = rim.collect();
-        if rim.is_empty() {
-            return;
+        if !rim.is_empty() {
+            samples[random.pick(&rim)] = random.pick(&[band as i16 + 1, 32767]);
         }
-        samples[random.pick(&rim)] = random.pick(&[1, 32767]);
+        true
     }
 
     /// Clears a byte that is a cut, or sets one that is none.
     fn spoil_byte(&mut self, random: &mut Random, lattice: &Lattice, clear: bool) -> bool {
-        let samples = &self.block.samples;
+        let (samples, band) = (&self.block.samples, self.band_of_labels());
         if samples.len() < lattice.point_count() {
             return false;
         }
         let is_needed = |offset: usize| {
             let (start, direction) = (offset / 7, offset % 7);
             let end = lattice.end(start, direction);
-            end.is_some_and(|end| samples[start].signum() * samples[end].signum() < 0)
+            end.is_some_and(|end| label(band, samples[start]) * label(band, samples[end]) < 0)
         };
         let known = self.block.cuts.len().min(7 * lattice.point_count());
         let fitting: Vec<usize> = (0..known).filter(|&o| is_needed(o) == clear).collect();
@@ -208,15 +224,85 @@ impl Call {
         self.block.cuts[random.pick(&fitting)] = byte;
         true
     }
+
+    /// Does one damage, every second time one in which the band has a say, and
+    /// now and then others, as far as they can be done.
+    fn damage_once_or_more(&mut self, random: &mut Random, lattice: &Lattice) {
+        let by_labels = random.pick(&[Damage::Rim, Damage::Gap, Damage::Stray]);
+        let any = random.pick(&DAMAGES);
+        let certain = random.pick(&[by_labels, any]);
+        for damage in DAMAGES {
+            if damage == certain || random.percent(6) {
+                self.damage(random, lattice, damage);
+            }
+        }
+    }
+
+    /// Puts bytes on some of the edges with an end in the band, mostly on such
+    /// whose samples are of opposite signs: those bytes were good before request
+    /// F-9. The block's sizes and lengths must be right.
+    fn put_bytes_beside_band(&mut self, random: &mut Random, lattice: &Lattice) {
+        let (samples, band) = (&self.block.samples, self.band);
+        let percent = random.pick(&[1, 10, 60]);
+        let only_opposite = random.percent(70);
+        for (offset, byte) in self.block.cuts.iter_mut().enumerate() {
+            let Some(end) = lattice.end(offset / 7, offset % 7) else {
+                continue;
+            };
+            let [a, b] = [samples[offset / 7], samples[end]];
+            let is_beside = label(band, a) == 0 || label(band, b) == 0;
+            let is_opposite = a.signum() * b.signum() < 0;
+            if is_beside && (is_opposite || !only_opposite) && random.percent(percent) {
+                *byte = random.pick(&[1, 63, 128, 255]);
+            }
+        }
+    }
 }
 
-/// The sizes, samples and cut table of a call of mending that must be refused,
-/// for one reason or for several. If the only reason is a size that is just not
-/// allowed, both tables are as long as they would have to be if it were. The
-/// tables hold anything.
-pub fn mend_call(random: &mut Random) -> ([u32; 3], Vec<i16>, Vec<u8>) {
+/// Bands that are refused.
+pub const BAD_BANDS: [u32; 6] = [32768, 32769, 65535, 65536, 1 << 31, u32::MAX];
+
+/// A call of filling with a band above 0, valid or not: of a block with noise in
+/// the band, on the rim too; of one that is valid at band 0, and so often not
+/// with its band; with bytes beside the band, or with none at all; all of these
+/// also with damages. The row table is mostly exact.
+pub fn banded_call(random: &mut Random) -> Call {
+    let largest = random.pick(&[3, 4, 4, 5]);
+    let raw = random.pick(&[any_block, crowded_block, flickering_block])(random, largest);
+    let band = match random.below(4) {
+        0 => any_band(random, &raw),
+        1 => random.between(1, 9) as u32,
+        _ => wide_band(random, &raw),
+    };
+    let band = band.max(1);
+    let block = match random.below(6) {
+        0 => raw,
+        1 if random.percent(50) => shapes::emptied(raw),
+        _ => for_band_with_noise(random, raw, band),
+    };
+    let lattice = block.lattice().expect("allowed sizes");
+    let mut call = Call::good(block, band, 0);
+    call.row_length = match random.below(8) {
+        0 => call.row_length.saturating_sub(1),
+        1 => call.row_length + 5,
+        _ => call.row_length,
+    };
+    if random.percent(30) {
+        call.put_bytes_beside_band(random, &lattice);
+    }
+    if random.percent(50) {
+        call.damage_once_or_more(random, &lattice);
+    }
+    call
+}
+
+/// The sizes, band, samples and cut table of a call of mending that must be
+/// refused, for one reason or for several. If a size is just not allowed, both
+/// tables can be as long as they would have to be if it were. The tables hold
+/// anything.
+pub fn mend_call(random: &mut Random) -> ([u32; 3], u32, Vec<i16>, Vec<u8>) {
     let mut sizes = [0; 3].map(|_| random.between(1, 4) as u32);
-    let wrong = random.between(1, 7);
+    let wrong = random.between(1, 15);
     let is_wrong = |n: usize| wrong >> n & 1 != 0;
     let mut n = count_points(sizes);
     if is_wrong(0) {
@@ -228,6 +314,10 @@ pub fn mend_call(random: &mut Random) -> ([u32; 3], Vec<i16>, Vec<u8>) {
             sizes[axis] = random.pick(&[255, 256, 1 << 16, 1 << 31, u32::MAX]);
         }
     }
+    let good_band = random.between(0, i64::from(LARGEST_BAND)) as u32;
+    let band = random.pick(&[0, good_band, LARGEST_BAND]);
+    let bad_band = random.pick(&BAD_BANDS);
+    let band = if is_wrong(3) { bad_band } else { band };
     let mut sample_count = n;
     if is_wrong(1) {
         sample_count = random.pick(&[0, n - 1, n + 1, 2 * n, 7 * n]);
@@ -239,7 +329,7 @@ pub fn mend_call(random: &mut Random) -> ([u32; 3], Vec<i16>, Vec<u8>) {
     }
     let samples = (0..sample_count).map(|_| random.bits() as i16).collect();
     let cuts = (0..byte_count).map(|_| random.bits() as u8).collect();
-    (sizes, samples, cuts)
+    (sizes, band, samples, cuts)
 }
 
 /// The count of points by the formula of document 01, whatever the sizes.
@@ -383,7 +473,11 @@ impl NodesCall {
         };
         let any_band = any_band(random, &block);
         let band = random.pick(&[0, 0, any_band]);
-        NodesCall::of_block(random, block, band, 0)
+        let cuts = block.cuts.clone();
+        let mut call = NodesCall::of_block(random, for_band(block, band), band, 0);
+        // With the bytes beside the band, whose cuts have no places then.
+        call.cuts = cuts;
+        call
     }
 
     /// Makes the node table this long, with new noise.

@@ -6,9 +6,9 @@
 //! uses two buffers: N label bytes and, if there are cuts, N marks of four
 //! bytes.
 //!
-//! The label bytes are read twice if there is a band (request F-3 of document
-//! 02): the raw signs for the rim and the cut bytes, then the labels. At band
-//! 0 the two are the same.
+//! The labels are read once, with the band (request F-3 of document 02), and
+//! everything else reads them: the tests of the rim and of the cut bytes too,
+//! since request F-9.
 
 use crate::bytes::{lowest_plus_on_rim, read_labels, test_cuts};
 use crate::emit::{count_rows, write_rows};
@@ -49,7 +49,7 @@ impl Filled {
 /// table, and leaves the entries behind the last row alone.
 ///
 /// A sample whose size is at most the band, 0 to 32767, has label zero, and its
-/// point the state byte 15.
+/// point the state byte 15. The rim and the cut bytes are tested by the labels.
 ///
 /// Refusals come in the order 1, 14, 2 to 5, then the lowest byte that is a 6
 /// or a 7, then 10. Refusals 1 to 7 and 14 write nothing; after 10 the state
@@ -82,8 +82,7 @@ pub fn fill(
         return Filled::refused(refusal::STATE, 0);
     }
     let grids = Grids::new(&lattice);
-    let mut labels = Vec::new();
-    read_labels(0, samples, &mut labels);
+    let mut labels = read_labels(band as i16, samples);
     if let Some(point) = lowest_plus_on_rim(&grids, &labels) {
         return Filled::refused(refusal::RIM, point);
     }
@@ -91,9 +90,6 @@ pub fn fill(
         Ok(marks) => marks,
         Err(wrong) => return Filled::refused(wrong.number, wrong.offset),
     };
-    if band != 0 {
-        read_labels(band as i16, samples, &mut labels);
-    }
     let moved = move_points(&grids, &marks, &mut labels, cuts, state);
     let count = count_rows(&grids, &labels);
     let fits = rows.len() >= 4 * count;

@@ -1,11 +1,13 @@
 //! Random valid blocks (document 01, "The block"), in several mixes of labels
-//! and with cut bytes often at the limits of violation; and random bands
-//! (document 02, request F-3). And blocks with a worn cut table (request F-4),
-//! which need mending, and the sizes of samples at which mending is hardest.
+//! and with cut bytes often at the limits of violation; random bands (document
+//! 02, request F-3), and blocks made valid with a band (request F-9). And blocks
+//! with a worn cut table (request F-4), which need mending, and the sizes of
+//! samples at which mending is hardest.
 
 use crate::block::Block;
 use crate::fill::LARGEST_BAND;
 use crate::lattice::{Edge, Lattice};
+use crate::plain::label;
 use crate::random::Random;
 
 /// How the labels of a block are mixed.
@@ -124,6 +126,41 @@ pub fn wide_band(random: &mut Random, block: &Block) -> u32 {
     largest_taken_in.unwrap_or(0).min(LARGEST_BAND)
 }
 
+/// The block without the bytes that are stray by the labels of this band: those
+/// beside points in the band, if it was valid at band 0, and then it is valid
+/// with this band.
+pub fn for_band(mut block: Block, band: u32) -> Block {
+    let lattice = block.lattice().expect("allowed sizes");
+    let needed = cuts_where_needed(&lattice, band, &block.samples, |_, _| 1);
+    for (byte, needed) in block.cuts.iter_mut().zip(needed) {
+        *byte *= needed;
+    }
+    block
+}
+
+/// The same with other noise: all, some or none of the samples in the band are
+/// drawn anew, and have either sign, on the rim too. The labels stay.
+pub fn for_band_with_noise(random: &mut Random, mut block: Block, band: u32) -> Block {
+    let percent = random.pick(&[0, 30, 100]);
+    for sample in &mut block.samples {
+        if label(band, *sample) == 0 && random.percent(percent) {
+            *sample = sample_in_band(random, band);
+        }
+    }
+    for_band(block, band)
+}
+
+/// A sample in the band, often a small one or one of the band's own size.
+fn sample_in_band(random: &mut Random, band: u32) -> i16 {
+    let band = i64::from(band);
+    let size = match random.below(4) {
+        0 => random.between(0, 3).min(band),
+        1 => band,
+        _ => random.between(0, band),
+    };
+    random.pick(&[size, -size]) as i16
+}
+
 /// A random block with sizes from 1 to 5 and a cut table that mostly wants
 /// mending: bytes are missing and stray anywhere, also where there is no edge,
 /// and good bytes are of any value. One block in three has no rubber on its
@@ -137,7 +174,7 @@ pub fn worn_block(random: &mut Random) -> Block {
 pub fn worn_block_of(random: &mut Random, sizes: [u32; 3]) -> Block {
     let lattice = Lattice::new(sizes[0], sizes[1], sizes[2]).expect("allowed sizes");
     let samples = worn_samples(random, &lattice);
-    let mut cuts = cuts_where_needed(&lattice, &samples, |_, _| any_cut(random));
+    let mut cuts = cuts_where_needed(&lattice, 0, &samples, |_, _| any_cut(random));
     wear(random, &mut cuts);
     Block {
         sizes,
@@ -332,7 +369,7 @@ fn block_of(
 ) -> Block {
     let lattice = Lattice::new(sizes[0], sizes[1], sizes[2]).expect("allowed sizes");
     let samples = random_samples(random, &lattice, mix, sample);
-    let cuts = cuts_where_needed(&lattice, &samples, |_, _| random_cut(random, cutting));
+    let cuts = cuts_where_needed(&lattice, 0, &samples, |_, _| random_cut(random, cutting));
     Block {
         sizes,
         samples,
@@ -340,10 +377,11 @@ fn block_of(
     }
 }
 
-/// A cut table with bytes exactly where they must be; `byte` gives each from
-/// the samples at the edge's start and end.
+/// A cut table with bytes exactly where they must be with this band; `byte`
+/// gives each from the samples at the edge's start and end.
 pub fn cuts_where_needed(
     lattice: &Lattice,
+    band: u32,
     samples: &[i16],
     mut byte: impl FnMut(i16, i16) -> u8,
 ) -> Vec<u8> {
@@ -354,7 +392,7 @@ pub fn cuts_where_needed(
                 continue;
             };
             let (a, b) = (samples[start], samples[end]);
-            if a.signum() * b.signum() < 0 {
+            if label(band, a) * label(band, b) < 0 {
                 cuts[Edge { start, direction }.offset()] = byte(a, b);
             }
         }

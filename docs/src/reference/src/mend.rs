@@ -2,18 +2,20 @@
 //!
 //! Follows request F-4 of document 02: missing bytes are filled in, stray ones
 //! cleared, good ones left alone, and both kinds of change counted. Which bytes
-//! must be non-zero is said in document 01, "The block", by raw samples; there
-//! is no band and no test of the rim here.
+//! must be non-zero is said in document 01, "The block", and by request F-9: the
+//! band comes first, and an edge must be cut if its ends' labels are opposite.
+//! What a missing byte becomes is still a matter of the samples' sizes. There is
+//! no test of the rim here.
 //!
 //! Only groups of eight points with an edge that must be cut are looked at
 //! byte by byte ([`crate::bits`]). What lies between two of them, often the
 //! bytes of many lines, must all be zero; it is tested by eights ([`all_zero`],
-//! request F-5) and cleared in wide steps. If the samples are all of one sign,
-//! that is the whole table. Otherwise there is one buffer, of 32 bytes for each
-//! line.
+//! request F-5) and cleared in wide steps. If no two labels are opposite, that is
+//! the whole table. Otherwise there is one buffer, of 32 bytes for each line.
 
 use crate::bits::{cuts_of_group, needs_of_group, needs_of_line, Signs, GROUP};
 use crate::bytes::all_zero;
+use crate::fill::LARGEST_BAND;
 use crate::lattice::Lattice;
 use crate::refusal;
 use crate::strides::{Grids, Line, Reach};
@@ -41,17 +43,22 @@ impl Mended {
 }
 
 /// A mending: [`mend`] or [`crate::plain::mend`].
-pub type Mending = fn(u32, u32, u32, &[i16], &mut [u8]) -> Mended;
+pub type Mending = fn(u32, u32, u32, u32, &[i16], &mut [u8]) -> Mended;
 
-/// Mends a cut table, so that filling no longer refuses it with 6 or 7: fills
-/// in the bytes that are zero and must not be, and clears those that are not
-/// zero and must be.
+/// Mends a cut table, so that filling with the same band no longer refuses it
+/// with 6 or 7: fills in the bytes that are zero and must not be, and clears
+/// those that are not zero and must be.
 ///
-/// Refusals come in the order 1, 2, 3. They change nothing and give two zeros.
-pub fn mend(nx: u32, ny: u32, nz: u32, samples: &[i16], cuts: &mut [u8]) -> Mended {
+/// Refusals come in the order 1, 14, 2, 3. They change nothing and give two
+/// zeros.
+pub fn mend(nx: u32, ny: u32, nz: u32, band: u32, samples: &[i16], cuts: &mut [u8]) -> Mended {
     let Some(lattice) = Lattice::new(nx, ny, nz) else {
         return Mended::refused(refusal::SIZE);
     };
+    if band > LARGEST_BAND {
+        return Mended::refused(refusal::BAND);
+    }
+    let band = band as i16;
     let n = lattice.point_count();
     if samples.len() != n {
         return Mended::refused(refusal::SAMPLES);
@@ -66,9 +73,9 @@ pub fn mend(nx: u32, ny: u32, nz: u32, samples: &[i16], cuts: &mut [u8]) -> Mend
         filled: 0,
         cleared: 0,
     };
-    if has_both_signs(samples) {
+    if has_both_signs(band, samples) {
         let grids = Grids::new(&lattice);
-        let of_line = |line: Line| Signs::of(&samples[line.first..line.first + line.count()]);
+        let of_line = |line: Line| Signs::of(band, &samples[line.first..line.first + line.count()]);
         let signs: Vec<Signs> = grids.lines().map(of_line).collect();
         for line in grids.lines() {
             table.mend_line(&line, &signs);
@@ -82,11 +89,11 @@ pub fn mend(nx: u32, ny: u32, nz: u32, samples: &[i16], cuts: &mut [u8]) -> Mend
     }
 }
 
-/// Whether a sample is above zero and another below; otherwise no edge is cut.
-fn has_both_signs(samples: &[i16]) -> bool {
+/// Whether a label is plus and another minus; otherwise no edge is cut.
+fn has_both_signs(band: i16, samples: &[i16]) -> bool {
     let outermost = |(low, high): (i16, i16), &s: &i16| (low.min(s), high.max(s));
     let (low, high) = samples.iter().fold((0, 0), outermost);
-    low < 0 && high > 0
+    low < -band && high > band
 }
 
 /// A cut table in the course of being mended, in ascending offset.

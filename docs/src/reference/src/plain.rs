@@ -4,9 +4,10 @@
 //! Follows document 01, "The block", "Moving points", "Lattice tetrahedra and
 //! rows" and "Calls and refusals" in their order, and in "Moving points"
 //! requests F-2, F-3 and F-8 of document 02; for mending, request F-4; for the
-//! node table, request F-6. Every number is decoded, every tetrahedron listed,
-//! every corner sorted, every six-volume computed from the places of the moved
-//! points, every entry of a row table placed on its own.
+//! node table, request F-6. The band comes first, as request F-9 says: the rim,
+//! the cut bytes and mending read labels. Every number is decoded, every
+//! tetrahedron listed, every corner sorted, every six-volume computed from the
+//! places of the moved points, every entry of a row table placed on its own.
 
 use crate::cut::{edge_of_code, place_of_cut, place_of_point, six_volume, violation, Place};
 use crate::fill::Filled;
@@ -49,6 +50,40 @@ pub fn fill(
     state: &mut [u8],
     rows: &mut [u32],
 ) -> Filled {
+    fill_by(label, nx, ny, nz, band, samples, cuts, state, rows)
+}
+
+/// Fills a block as before request F-9, when the tests of the rim and of the cut
+/// bytes read raw samples whatever the band. For comparison only.
+#[allow(clippy::too_many_arguments)]
+pub fn fill_by_raw_samples(
+    nx: u32,
+    ny: u32,
+    nz: u32,
+    band: u32,
+    samples: &[i16],
+    cuts: &[u8],
+    state: &mut [u8],
+    rows: &mut [u32],
+) -> Filled {
+    let sign = |_: u32, sample: i16| sample.signum();
+    fill_by(sign, nx, ny, nz, band, samples, cuts, state, rows)
+}
+
+/// Fills a block; the tests of the rim and of the cut bytes read what is given
+/// for a band and a sample.
+#[allow(clippy::too_many_arguments)]
+fn fill_by(
+    tested: fn(u32, i16) -> i16,
+    nx: u32,
+    ny: u32,
+    nz: u32,
+    band: u32,
+    samples: &[i16],
+    cuts: &[u8],
+    state: &mut [u8],
+    rows: &mut [u32],
+) -> Filled {
     let Some(lattice) = Lattice::new(nx, ny, nz) else {
         return Filled::refused(refusal::SIZE, 0);
     };
@@ -65,10 +100,11 @@ pub fn fill(
     if state.len() != n {
         return Filled::refused(refusal::STATE, 0);
     }
-    if let Some(point) = lowest_plus_on_rim(&lattice, samples) {
+    let labels: Vec<i16> = samples.iter().map(|&s| tested(band, s)).collect();
+    if let Some(point) = lowest_plus_on_rim(&lattice, &labels) {
         return Filled::refused(refusal::RIM, point);
     }
-    if let Some((number, offset)) = lowest_wrong_byte(&lattice, samples, cuts) {
+    if let Some((number, offset)) = lowest_wrong_byte(&lattice, &labels, cuts) {
         return Filled::refused(number, offset);
     }
     let moved = move_points(&lattice, band, samples, cuts);
@@ -86,16 +122,16 @@ pub fn fill(
     }
 }
 
-/// The lowest rim point whose raw sample is above zero.
-fn lowest_plus_on_rim(lattice: &Lattice, samples: &[i16]) -> Option<usize> {
-    (0..samples.len()).find(|&point| lattice.is_rim(point) && samples[point] > 0)
+/// The lowest rim point whose label is plus.
+fn lowest_plus_on_rim(lattice: &Lattice, labels: &[i16]) -> Option<usize> {
+    (0..labels.len()).find(|&point| lattice.is_rim(point) && labels[point] > 0)
 }
 
-/// The lowest offset whose byte is a gap or a stray by the raw samples, with
-/// that refusal.
-fn lowest_wrong_byte(lattice: &Lattice, samples: &[i16], cuts: &[u8]) -> Option<(u32, usize)> {
+/// The lowest offset whose byte is a gap or a stray by the labels, with that
+/// refusal.
+fn lowest_wrong_byte(lattice: &Lattice, labels: &[i16], cuts: &[u8]) -> Option<(u32, usize)> {
     for (offset, &byte) in cuts.iter().enumerate() {
-        let must_be_cut = must_be_cut(lattice, samples, offset);
+        let must_be_cut = must_be_cut(lattice, labels, offset);
         if must_be_cut && byte == 0 {
             return Some((refusal::GAP, offset));
         }
@@ -107,13 +143,14 @@ fn lowest_wrong_byte(lattice: &Lattice, samples: &[i16], cuts: &[u8]) -> Option<
 }
 
 /// "A byte must be non-zero exactly where the edge exists and one end's sample
-/// is above zero and the other's below."
-fn must_be_cut(lattice: &Lattice, samples: &[i16], offset: usize) -> bool {
+/// is above zero and the other's below"; since request F-9, where one end's
+/// label is plus and the other's minus.
+fn must_be_cut(lattice: &Lattice, labels: &[i16], offset: usize) -> bool {
     let (start, direction) = (offset / 7, offset % 7);
     match lattice.end(start, direction) {
         None => false,
         Some(end) => {
-            let (a, b) = (samples[start], samples[end]);
+            let (a, b) = (labels[start], labels[end]);
             (a > 0 && b < 0) || (a < 0 && b > 0)
         }
     }
@@ -330,10 +367,13 @@ pub fn place_of(lattice: &Lattice, cuts: &[u8], codes: &[u8], corner: Corner) ->
 }
 
 /// Mends a cut table; same contract as [`crate::mend::mend`].
-pub fn mend(nx: u32, ny: u32, nz: u32, samples: &[i16], cuts: &mut [u8]) -> Mended {
+pub fn mend(nx: u32, ny: u32, nz: u32, band: u32, samples: &[i16], cuts: &mut [u8]) -> Mended {
     let Some(lattice) = Lattice::new(nx, ny, nz) else {
         return Mended::refused(refusal::SIZE);
     };
+    if band > 32767 {
+        return Mended::refused(refusal::BAND);
+    }
     let n = lattice.point_count();
     if samples.len() != n {
         return Mended::refused(refusal::SAMPLES);
@@ -341,9 +381,10 @@ pub fn mend(nx: u32, ny: u32, nz: u32, samples: &[i16], cuts: &mut [u8]) -> Mend
     if cuts.len() != 7 * n {
         return Mended::refused(refusal::CUTS);
     }
+    let labels: Vec<i16> = samples.iter().map(|&s| label(band, s)).collect();
     let (mut filled, mut cleared) = (0, 0);
     for (offset, byte) in cuts.iter_mut().enumerate() {
-        let must_be_cut = must_be_cut(&lattice, samples, offset);
+        let must_be_cut = must_be_cut(&lattice, &labels, offset);
         if must_be_cut && *byte == 0 {
             let (start, direction) = (offset / 7, offset % 7);
             let end = lattice.end(start, direction).expect("an edge");
@@ -364,7 +405,8 @@ pub fn mend(nx: u32, ny: u32, nz: u32, samples: &[i16], cuts: &mut [u8]) -> Mend
 
 /// What a missing byte becomes, from the samples at its edge's start and end:
 /// "256 times the start's sample size divided by the sum of both sizes, rounded
-/// half up and held within 1 to 255".
+/// half up and held within 1 to 255". The band decides where a byte is missing,
+/// but not what it becomes: sizes are those of the samples.
 ///
 /// Nothing is divided: a quotient rounded half up is the one whole number that
 /// it lies at most one half below or less than one half above, and dividend and

@@ -11,7 +11,7 @@ pub const SAMPLES: u32 = 2;
 pub const CUTS: u32 = 3;
 /// State table not N bytes.
 pub const STATE: u32 = 4;
-/// A rim point's sample is above zero.
+/// A rim point's label is plus: its sample is above the band.
 pub const RIM: u32 = 5;
 /// A cut byte is zero that must not be.
 pub const GAP: u32 = 6;

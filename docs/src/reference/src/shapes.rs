@@ -104,7 +104,7 @@ pub fn solid() -> Block {
     let lattice = Lattice::new(6, 6, 6).expect("allowed sizes");
     let sample = |point| if lattice.is_rim(point) { -5 } else { 5 };
     let samples: Vec<i16> = (0..lattice.point_count()).map(sample).collect();
-    let cuts = cuts_where_needed(&lattice, &samples, |_, _| 128);
+    let cuts = cuts_where_needed(&lattice, 0, &samples, |_, _| 128);
     Block {
         sizes: [6; 3],
         samples,
@@ -124,7 +124,7 @@ fn from_distance(sizes: [u32; 3], distance: impl Fn([f64; 3]) -> f64) -> Block {
             steps.clamp(-32768.0, 32767.0) as i16
         })
         .collect();
-    let cuts = cuts_where_needed(&lattice, &samples, interpolate);
+    let cuts = cuts_where_needed(&lattice, 0, &samples, interpolate);
     Block {
         sizes,
         samples,

@@ -1,10 +1,11 @@
 //! State bytes and moving points (warping the lattice), for the fast filling.
 //!
 //! Follows document 01, "Moving points", and requests F-2, F-3 and F-8 of
-//! document 02. A point's mark is the nearest of all cuts that violate it. "A
-//! cut byte beside a zero label is simply not live", be the label zero by the
-//! band or by a move, so the live cuts are some of these. A point without a mark
-//! is therefore not violated at its turn either, and the cut in a point's mark is
+//! document 02. A point's mark is the nearest of all cuts that violate it. Since
+//! request F-9 no cut has an end whose label is zero from the start, so all are
+//! live at first, and a point with a mark has a non-zero label at its turn. As
+//! points move, the live cuts are some of these. A point without a mark is
+//! therefore not violated at its turn either, and the cut in a point's mark is
 //! the nearest live one if it is live.
 //!
 //! These marks are not what request F-8 calls to mark a point: its state byte is
@@ -45,9 +46,6 @@ pub fn move_points(
                 continue;
             };
             let point = line.first + index;
-            if labels[point] == ZERO {
-                continue;
-            }
             let other = codes[usize::from(code) - 1].other_end(point);
             let code = if labels[other] != ZERO {
                 Some(code)

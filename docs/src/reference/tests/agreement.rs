@@ -7,9 +7,10 @@
 mod both_fillings;
 
 use both_fillings::{check_valid, run_both};
+use reference::block::Block;
 use reference::damage::{Call, Damage, DAMAGES};
-use reference::generate::{any_band, any_block, block, crowded_block, wide_band};
-use reference::generate::{Cutting, CUTTINGS, MIXES};
+use reference::generate::{any_band, any_block, block, crowded_block, for_band_with_noise};
+use reference::generate::{wide_band, Cutting, CUTTINGS, MIXES};
 use reference::random::Random;
 
 #[test]
@@ -44,9 +45,7 @@ fn on_every_size_up_to_three() {
         for mix in MIXES {
             for cutting in CUTTINGS {
                 let block = block(&mut random, sizes, mix, cutting);
-                for band in [0, wide_band(&mut random, &block)] {
-                    check_valid(&mut Call::good(block.clone(), band, 0), &mut random);
-                }
+                check_without_and_with_band(block, &mut random);
             }
         }
     }
@@ -66,18 +65,25 @@ fn on_long_blocks() {
         for mix in MIXES {
             let cutting = random.pick(&CUTTINGS);
             let block = block(&mut random, sizes, mix, cutting);
-            for band in [0, wide_band(&mut random, &block)] {
-                check_valid(&mut Call::good(block.clone(), band, 0), &mut random);
-            }
+            check_without_and_with_band(block, &mut random);
         }
     }
+}
+
+/// Fills a block that is valid at band 0, and the same with a wide band and noise
+/// in it.
+fn check_without_and_with_band(block: Block, random: &mut Random) {
+    let band = wide_band(random, &block);
+    let noisy = for_band_with_noise(random, block.clone(), band);
+    check_valid(&mut Call::good(block, 0, 0), random);
+    check_valid(&mut Call::good(noisy, band, 0), random);
 }
 
 /// A call with any block and any band that is not refused.
 fn any_call(random: &mut Random, largest: u32) -> Call {
     let block = any_block(random, largest);
     let band = any_band(random, &block);
-    Call::good(block, band, 0)
+    Call::good(for_band_with_noise(random, block, band), band, 0)
 }
 
 #[test]

@@ -1,6 +1,7 @@
 //! Request F-3: "A sample whose size is at most the band has label zero." By
-//! brute force on thousands of random valid blocks with bands, beside the
-//! filling before the request at band 0, and by hand on the given case.
+//! brute force on thousands of random blocks that are valid with bands, beside
+//! the filling before the request at band 0, and by hand on the given case. What
+//! must be refused, which request F-9 changed, is in `tests/band_first.rs`.
 
 mod both_fillings;
 
@@ -10,11 +11,12 @@ use reference::blockfile::{bench_output, fill_block, write};
 use reference::bytes::{read_labels, MINUS, PLUS, ZERO};
 use reference::check::check_mesh;
 use reference::cut::{edge_of_code, violation};
-use reference::damage::{Call, Damage, Outcome, DAMAGES};
+use reference::damage::{Call, Outcome, BAD_BANDS};
 use reference::fill::Filled;
 use reference::generate::{any_band, any_block, crowded_block, flickering_block, wide_band};
-use reference::generate::{block, cuts_where_needed, Cutting, CUTTINGS, MIXES};
-use reference::lattice::{Edge, Lattice};
+use reference::generate::{block, cuts_where_needed, for_band, for_band_with_noise};
+use reference::generate::{Cutting, CUTTINGS, MIXES};
+use reference::lattice::Lattice;
 use reference::place::{place, Placed};
 use reference::plain::{ids_of_rows, label, marked, nearest, Moved, Violation};
 use reference::random::Random;
@@ -28,19 +30,12 @@ fn in_band(band: u32, sample: i16) -> bool {
     -band <= sample && sample <= band
 }
 
-/// The block without its noise: in-band samples are zero and have no cuts.
+/// The block without its noise: in-band samples are zero.
 fn without_noise(block: &Block, band: u32) -> Block {
-    let lattice = block.lattice().unwrap();
     let mut quiet = block.clone();
-    for (point, &sample) in block.samples.iter().enumerate() {
-        if !in_band(band, sample) {
-            continue;
-        }
-        quiet.samples[point] = 0;
-        for code in 1..=14 {
-            if let Some((edge, _)) = edge_of_code(&lattice, point, code) {
-                quiet.cuts[edge.offset()] = 0;
-            }
+    for sample in &mut quiet.samples {
+        if in_band(band, *sample) {
+            *sample = 0;
         }
     }
     quiet
@@ -56,6 +51,8 @@ struct Seen {
     moved: usize,
     in_band: usize,
     in_band_on_rim: usize,
+    /// Those on the rim that are above zero.
+    above_zero_on_rim: usize,
     /// Samples whose size is the band, one less and one more.
     at_band: usize,
     one_below: usize,
@@ -63,29 +60,23 @@ struct Seen {
     /// Samples -32768 and 32767 at band 32767.
     lowest_at_largest_band: usize,
     highest_at_largest_band: usize,
-    /// Cut bytes beside in-band points.
-    beside: usize,
-    /// Such bytes that violate their in-band end.
-    violate_in_band_end: usize,
-    /// Such bytes that violate an end outside the band.
-    violate_other_end: usize,
-    /// Points that move, past such a byte that is nearer.
-    move_past_nearer: usize,
-    /// Points outside the band that such bytes and no others violate.
-    stay_by_the_band: usize,
-    /// Blocks with other moves, or another T, than at band 0.
+    /// Edges with an in-band end whose samples are of opposite signs.
+    uncut: usize,
+    /// Blocks with other moves, or another T, than at band 0 before the noise.
     other_moves: usize,
     other_rows: usize,
-    /// Blocks with rows at band 0 and none at this band.
+    /// Blocks with rows at band 0 before the noise and none at this band.
     emptied: usize,
     /// In-band points that are corners of faces in one row only.
     in_band_on_skin: usize,
 }
 
 impl Seen {
-    /// Both fillings agree, the result is that of the block without its noise,
+    /// With a block that is valid at band 0, made valid with this band: both
+    /// fillings agree, the result is that of the block without its noise,
     /// in-band points and no others have state byte 15, and demand 3 holds.
-    fn check(&mut self, block: Block, band: u32, random: &mut Random) {
+    fn check(&mut self, raw: Block, band: u32, random: &mut Random) {
+        let block = for_band_with_noise(random, raw.clone(), band);
         let mut call = Call::good(block, band, 0);
         let outcome = check_valid(&mut call, random);
         let block = call.block;
@@ -102,8 +93,8 @@ impl Seen {
         self.rows += outcome.filled.rows as usize;
         self.moved += outcome.filled.moved as usize;
         self.count_points(&block, band);
-        self.count_cuts(&block, band, &outcome.state);
-        self.compare_with_band_0(&block, &outcome);
+        self.count_edges(&block, band);
+        self.compare_with_band_0(&raw, &outcome);
         self.in_band_on_skin += points_on_open_faces(&outcome.rows, block.samples.len())
             .iter()
             .filter(|&&point| block.samples[point] != 0 && in_band(band, block.samples[point]))
@@ -120,7 +111,9 @@ impl Seen {
             let size = i64::from(sample).abs();
             let more = size - i64::from(band);
             self.in_band += usize::from(more <= 0);
-            self.in_band_on_rim += usize::from(more <= 0 && lattice.is_rim(point));
+            let on_rim = more <= 0 && lattice.is_rim(point);
+            self.in_band_on_rim += usize::from(on_rim);
+            self.above_zero_on_rim += usize::from(on_rim && sample > 0);
             self.at_band += usize::from(more == 0);
             self.one_below += usize::from(more == -1);
             self.one_above += usize::from(more == 1);
@@ -131,31 +124,23 @@ impl Seen {
         }
     }
 
-    /// Counts the bytes beside in-band points, and what they fail to do: no
-    /// point moves to such a cut.
-    fn count_cuts(&mut self, block: &Block, band: u32, state: &[u8]) {
-        self.beside += bytes_beside(block, band);
-        for (point, &code) in state.iter().enumerate() {
-            let all = violators(block, band, point).into_iter();
-            let (beside, others): (Vec<_>, Vec<_>) = all.partition(|v| v.beside);
-            if in_band(band, block.samples[point]) {
-                assert!(others.is_empty());
-                self.violate_in_band_end += beside.len();
+    /// No cut byte has an in-band end, whatever the samples' signs.
+    fn count_edges(&mut self, block: &Block, band: u32) {
+        let lattice = block.lattice().unwrap();
+        for (offset, &byte) in block.cuts.iter().enumerate() {
+            let Some(end) = lattice.end(offset / 7, offset % 7) else {
                 continue;
-            }
-            self.violate_other_end += beside.len();
-            self.stay_by_the_band += usize::from(!beside.is_empty() && others.is_empty());
-            if let Some(chosen) = others.iter().find(|v| v.code == code) {
-                let nearer = |v: &Violator| v.distance < chosen.distance;
-                self.move_past_nearer += usize::from(beside.iter().any(nearer));
-            } else {
-                assert_eq!(code, 0, "moved to a cut that is not live");
+            };
+            let ends = [offset / 7, end].map(|point| block.samples[point]);
+            if ends.iter().any(|&sample| in_band(band, sample)) {
+                assert_eq!(byte, 0, "byte {offset}");
+                self.uncut += usize::from(ends[0].signum() * ends[1].signum() < 0);
             }
         }
     }
 
-    fn compare_with_band_0(&mut self, block: &Block, outcome: &Outcome) {
-        let at_0 = fill_block(block, 0);
+    fn compare_with_band_0(&mut self, raw: &Block, outcome: &Outcome) {
+        let at_0 = fill_block(raw, 0);
         let (rows_at_0, rows) = (at_0.filled.rows, outcome.filled.rows);
         self.other_moves += usize::from(moves_of(&at_0.state) != moves_of(&outcome.state));
         self.other_rows += usize::from(rows_at_0 != rows);
@@ -167,48 +152,6 @@ impl Seen {
 fn moves_of(state: &[u8]) -> Vec<u8> {
     let move_or_0 = |&code: &u8| if is_move(code) { code } else { 0 };
     state.iter().map(move_or_0).collect()
-}
-
-/// A cut that violates a point by its byte.
-struct Violator {
-    code: u8,
-    distance: u32,
-    /// Whether an end of its edge is in the band.
-    beside: bool,
-}
-
-fn violators(block: &Block, band: u32, point: usize) -> Vec<Violator> {
-    let lattice = block.lattice().unwrap();
-    let violator = |code| {
-        let (edge, end) = edge_of_code(&lattice, point, code)?;
-        let distance = violation(block.cuts[edge.offset()], edge.direction, end)?;
-        let beside = is_beside(block, &lattice, band, edge);
-        Some(Violator {
-            code,
-            distance,
-            beside,
-        })
-    };
-    (1..=14).filter_map(violator).collect()
-}
-
-/// Whether an end of an edge is in the band.
-fn is_beside(block: &Block, lattice: &Lattice, band: u32, edge: Edge) -> bool {
-    let end = lattice.end(edge.start, edge.direction).unwrap();
-    [edge.start, end].map(|point| in_band(band, block.samples[point])) != [false; 2]
-}
-
-/// How many non-zero bytes lie beside in-band points.
-fn bytes_beside(block: &Block, band: u32) -> usize {
-    let lattice = block.lattice().unwrap();
-    let is_cut = |offset: &usize| block.cuts[*offset] != 0;
-    let edges = (0..block.cuts.len()).filter(is_cut).map(|offset| Edge {
-        start: offset / 7,
-        direction: offset % 7,
-    });
-    edges
-        .filter(|&edge| is_beside(block, &lattice, band, edge))
-        .count()
 }
 
 /// The points that are corners of a face in exactly one row.
@@ -247,13 +190,10 @@ fn seen_on(seed: u64, blocks: usize, block: BlockMaker, band: BandMaker) -> Seen
 #[test]
 fn wide_bands_on_flickering_blocks() {
     let seen = seen_on(61, 4000, flickering_block, wide_band);
-    assert!(seen.in_band > 150_000 && seen.beside > 100_000, "{seen:?}");
+    assert!(seen.in_band > 150_000 && seen.uncut > 100_000, "{seen:?}");
     assert!(seen.at_band > 10_000 && seen.one_below > 8_000, "{seen:?}");
     assert!(seen.one_above > 6_000 && seen.moved > 5_000, "{seen:?}");
-    assert!(seen.violate_in_band_end > 40_000, "{seen:?}");
-    assert!(seen.violate_other_end > 15_000, "{seen:?}");
-    assert!(seen.move_past_nearer > 1_200, "{seen:?}");
-    assert!(seen.stay_by_the_band > 6_000, "{seen:?}");
+    assert!(seen.above_zero_on_rim > 40_000, "{seen:?}");
     assert!(
         seen.other_moves > 2_500 && seen.other_rows > 1_500,
         "{seen:?}"
@@ -270,7 +210,7 @@ fn wide_bands_on_crowded_blocks() {
     assert!(seen.lowest_at_largest_band > 8_000, "{seen:?}");
     assert!(seen.highest_at_largest_band > 600, "{seen:?}");
     assert!(
-        seen.move_past_nearer > 800 && seen.emptied > 150,
+        seen.above_zero_on_rim > 800 && seen.emptied > 150,
         "{seen:?}"
     );
 }
@@ -308,31 +248,6 @@ fn bands_on_the_mount() {
         seen.moved > 1_000 && seen.in_band_on_skin > 5_000,
         "{seen:?}"
     );
-}
-
-/// A call with 5, 6, 7 or a table of a wrong length is refused at every band
-/// with the same number and the same place: those tests read raw samples.
-#[test]
-fn refusals_do_not_depend_on_the_band() {
-    let mut random = Random::new(66);
-    let mut seen = [0; 15];
-    for n in 0..1500 {
-        let mut call = Call::good(flickering_block(&mut random, 4), 0, 0);
-        let lattice = call.block.lattice().unwrap();
-        let after_band = DAMAGES.iter().position(|&d| d == Damage::Samples).unwrap();
-        let damages = &DAMAGES[after_band..DAMAGES.len() - 1];
-        if !call.damage(&mut random, &lattice, damages[n % damages.len()]) {
-            continue;
-        }
-        let at_0 = run_both(&call, random.bits()).filled;
-        assert_ne!(at_0.number, 0);
-        for band in [3, random.between(1, 32767) as u32, 32767] {
-            call.band = band;
-            assert_eq!(run_both(&call, random.bits()).filled, at_0);
-        }
-        seen[at_0.number as usize] += 1;
-    }
-    assert!(seen[2..=7].iter().all(|&count| count > 150), "{seen:?}");
 }
 
 /// Moving points as it was before the request: a point's label is its sample's
@@ -391,8 +306,7 @@ fn band_0_is_the_filling_before() {
 /// Both fillings' labels of all samples at one band.
 fn check_labels(band: u32, expected: impl Fn(i16) -> i16) {
     let samples: Vec<i16> = (i16::MIN..=i16::MAX).collect();
-    let mut labels = vec![77];
-    read_labels(band as i16, &samples, &mut labels);
+    let labels = read_labels(band as i16, &samples);
     assert_eq!(labels.len(), 65_536);
     for (&sample, fast) in samples.iter().zip(labels) {
         let fast = match fast {
@@ -427,18 +341,15 @@ fn labels_of_all_samples() {
     check_labels(32766, lowest);
 }
 
-/// Both fillings of a small block, with no row behind the last.
+/// Both fillings of a small block, which is made valid with the band, with no row
+/// behind the last.
 fn outcome(block: &Block, band: u32) -> Outcome {
-    run_both(&Call::good(block.clone(), band, 0), 1)
+    run_both(&Call::good(for_band(block.clone(), band), band, 0), 1)
 }
 
 fn check_refused(call: &Call, number: u32, place: usize) {
     let outcome = run_both(call, 2);
     assert_eq!(outcome.filled, Filled::refused(number, place));
-}
-
-fn check_block_refused(block: &Block, band: u32, number: u32, place: usize) {
-    check_refused(&Call::good(block.clone(), band, 5), number, place);
 }
 
 /// T, M and the state byte of one point.
@@ -460,7 +371,7 @@ fn the_given_case() {
         assert_eq!(state, [ON_SKIN; 35]);
     }
     let mut call = Call::good(block, 0, 0);
-    for band in [32768, 32769, 65535, 65536, 1 << 31, u32::MAX] {
+    for band in BAD_BANDS {
         call.band = band;
         check_refused(&call, 14, 0);
     }
@@ -472,7 +383,7 @@ fn rod(bytes: &[(usize, u8)]) -> Block {
     let lattice = Lattice::new(4, 2, 2).unwrap();
     let mut samples = vec![-5; lattice.point_count()];
     (samples[21], samples[22], samples[23]) = (5, 3, 5);
-    let mut cuts = cuts_where_needed(&lattice, &samples, |_, _| 128);
+    let mut cuts = cuts_where_needed(&lattice, 0, &samples, |_, _| 128);
     for &(offset, byte) in bytes {
         cuts[offset] = byte;
     }
@@ -530,7 +441,7 @@ fn order_of_checks() {
         (10, 0, |call| call.row_length = 95),
         (7, 98, |call| call.block.cuts[98] = 1),
         (6, 91, |call| call.block.cuts[91] = 0),
-        (5, 27, |call| call.block.samples[27] = 1),
+        (5, 27, |call| call.block.samples[27] = 5),
         (4, 0, |call| call.state_length = 34),
         (3, 0, |call| call.block.cuts.truncate(244)),
         (2, 0, |call| call.block.samples.truncate(34)),
@@ -550,68 +461,13 @@ fn order_of_checks() {
     }
 }
 
-/// "The rim and cut-byte tests go on reading raw samples."
-#[test]
-fn raw_samples_at_the_rim_and_beside_cuts() {
-    // A rim sample above zero, in the band or not; the lowest is named.
-    for (sample, band) in [(1, 0), (1, 1), (3, 5), (32767, 32767), (5, 4)] {
-        check_block_refused(&Block::given_with(&[(27, sample)], &[]), band, 5, 27);
-    }
-    check_block_refused(&Block::given_with(&[(26, 3), (27, 5)], &[]), 4, 5, 26);
-    // A rim sample below zero and in the band.
-    assert_eq!(
-        counts(&Block::given_with(&[(27, -1)], &[]), 1, 27),
-        (24, 0, ON_SKIN)
-    );
-    // Point 13 above zero and outside the band, point 14 below and in it.
-    for band in [2, 4, 5, 32767] {
-        check_block_refused(&Block::given_with(&[(14, -2)], &[(91, 0)]), band, 6, 91);
-    }
-    for byte in [1, 63, 128, 255] {
-        assert_eq!(
-            counts(&Block::given_with(&[(14, -2)], &[(91, byte)]), 2, 14),
-            (24, 0, ON_SKIN)
-        );
-    }
-    // Both in the band.
-    check_block_refused(&Block::given_with(&[], &[(91, 0)]), 5, 6, 91);
-    // A raw zero needs no cut and bears none, at any band.
-    for band in [0, 2, 5] {
-        check_block_refused(&Block::given_with(&[(14, 0)], &[]), band, 7, 91);
-    }
-    check_block_refused(&Block::given_with(&[], &[(0, 7)]), 5, 7, 0);
-    let raw_zero = Block::given_with(&[(14, 0)], &[(91, 0)]);
-    assert_eq!(counts(&raw_zero, 0, 14), (24, 0, ON_SKIN));
-}
-
-/// "A cut byte beside a zero label is simply not live."
-#[test]
-fn cuts_beside_the_band_are_not_live() {
-    // Byte 91 violates point 13 ..
-    let block = Block::given_with(&[(14, -2)], &[(91, 63)]);
-    assert_eq!(counts(&block, 1, 13), (0, 1, 1));
-    assert_eq!(counts(&block, 2, 13), (24, 0, 0));
-    // .. or point 14, which is in the band itself ..
-    let block = Block::given_with(&[(14, -2)], &[(91, 193)]);
-    assert_eq!(counts(&block, 1, 14), (24, 1, 8));
-    assert_eq!(counts(&block, 2, 14), (24, 0, ON_SKIN));
-    // .. or has its neighbour in it.
-    let block = Block::given_with(&[(13, 3)], &[(91, 193)]);
-    assert_eq!(counts(&block, 2, 14), (24, 1, 8));
-    assert_eq!(counts(&block, 3, 14), (0, 0, 0));
-    // The nearest cut (6,400) is beside the band, the next (33,075) is live.
-    let block = Block::given_with(&[(14, -2)], &[(91, 40), (94, 105)]);
-    assert_eq!(counts(&block, 1, 13), (0, 1, 1));
-    assert_eq!(counts(&block, 2, 13), (0, 1, 4));
-}
-
 #[test]
 fn the_outermost_samples_at_the_largest_band() {
     let mut block = Block::given_with(&[], &[(91, 193)]);
     block.samples.fill(-32768);
     block.samples[13] = 32767;
     assert_eq!(counts(&block, 32766, 14), (24, 1, 8));
-    // Point 13 is zero, so byte 91 does not move point 14.
+    // Point 13 is zero, so byte 91 is none and does not move point 14.
     assert_eq!(counts(&block, 32767, 14), (0, 0, 0));
     // -32767 is zero and -32768 is not, but there is no plus either way.
     block.samples[13] = -32767;
@@ -637,7 +493,8 @@ fn the_face_rule() {
 }
 
 /// The place call takes no band, but reads the state table: since request F-8
-/// the cut between a plus and an in-band point, which no row holds, is refused.
+/// the cut between a plus and an in-band point, which no row holds, is refused,
+/// even by a cut table that has its byte.
 #[test]
 fn the_place_of_a_cut_beside_the_band() {
     let block = Block::given_with(&[(14, -2)], &[]);
@@ -679,6 +536,6 @@ fn the_least_band_for_a_tenth() {
     let zeros = |count: usize| -> Vec<(usize, i16)> { (0..count).map(|p| (p, 0)).collect() };
     check(&Block::given_with(&zeros(4), &[]), Some(0));
     check(&Block::given_with(&zeros(3), &[]), Some(5));
-    let sphere = fill_block(&shapes::sphere(), 655).filled;
+    let sphere = fill_block(&for_band(shapes::sphere(), 655), 655).filled;
     assert_eq!((sphere.rows, sphere.moved), (1_094_664, 0));
 }

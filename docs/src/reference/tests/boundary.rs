@@ -7,7 +7,7 @@ use reference::blockfile::{fill_block, Tables};
 use reference::boundary::{check_boundary, check_edges, check_edges_plain};
 use reference::boundary::{faces_in_one_row, faces_in_one_row_plain, Boundary, Row};
 use reference::generate::{any_band, any_block, block, crowded_block, flickering_block};
-use reference::generate::{wide_band, CUTTINGS, MIXES};
+use reference::generate::{for_band, wide_band, CUTTINGS, MIXES};
 use reference::random::Random;
 use reference::report::volumes;
 use reference::shapes;
@@ -34,8 +34,10 @@ struct Seen {
 }
 
 impl Seen {
-    /// Both claims hold, and the smaller the block the plainer this is seen.
+    /// Both claims hold for the block made valid with the band, and the smaller
+    /// the block the plainer this is seen.
     fn check(&mut self, block: &Block, band: u32) -> Boundary {
+        let block = &for_band(block.clone(), band);
         let Tables {
             filled,
             state,

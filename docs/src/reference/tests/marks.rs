@@ -1,6 +1,8 @@
 //! Request F-8: "Mark points that lie on the skin unmoved." By brute force on
 //! thousands of random valid blocks, half of them with bands, beside the state
-//! table before the request, and by hand on the given case.
+//! table before the request, and by hand on the given case. Since request F-9 no
+//! byte of a valid block stands beside a marked point, but the place call takes
+//! any cut table, and is asked with such bytes too.
 
 mod both_fillings;
 
@@ -12,7 +14,7 @@ use reference::cut::six_volume;
 use reference::damage::{Call, NodesCall, NodesOutcome, Outcome};
 use reference::fill::Filled;
 use reference::generate::{any_band, any_block, crowded_block, flickering_block, wide_band};
-use reference::generate::{block, CUTTINGS, MIXES};
+use reference::generate::{block, for_band, for_band_with_noise, CUTTINGS, MIXES};
 use reference::lattice::Lattice;
 use reference::metric::{place_mm, place_mm_plain};
 use reference::nodes::{nodes, Numbered};
@@ -65,8 +67,8 @@ struct Seen {
     all_marked: usize,
     /// Marked points that are corners of rows.
     corners: usize,
-    /// Cut bytes with a marked end; of these those whose other end is marked
-    /// too, moved, or at rest.
+    /// Bytes with a marked end that stood before the block was made valid with
+    /// the band; of these those whose other end is marked too, moved, or at rest.
     beside: usize,
     between_marked: usize,
     beside_moved: usize,
@@ -80,10 +82,12 @@ struct Seen {
 }
 
 impl Seen {
-    /// Both fillings agree; rows, T and M are those of before; the state byte is
-    /// 15 exactly where the label is zero from the start and else the byte of
+    /// With a block that is valid at band 0, made valid with this band: both
+    /// fillings agree; rows, T and M are those of before; the state byte is 15
+    /// exactly where the label is zero from the start and else the byte of
     /// before, after 10 too; and demand 3 holds.
-    fn check(&mut self, block: Block, band: u32, random: &mut Random) {
+    fn check(&mut self, raw: Block, band: u32, random: &mut Random) {
+        let block = for_band_with_noise(random, raw.clone(), band);
         let lattice = block.lattice().unwrap();
         let before = before(&block, band);
         let rows = ids_of_rows(&lattice, &block.cuts, &before);
@@ -128,7 +132,7 @@ impl Seen {
             .filter(is_corner)
             .count();
         self.check_points(&lattice, &block, &state);
-        self.check_cuts(&lattice, &block, &state);
+        self.check_cuts(&lattice, &raw, &state);
     }
 
     /// Every point has a place; a marked one its own.
@@ -157,15 +161,15 @@ impl Seen {
 
     /// "A cut with an end coded 15 is refused by 8", as one beside a moved point
     /// is; all others have a place.
-    fn check_cuts(&mut self, lattice: &Lattice, block: &Block, state: &[u8]) {
-        for (offset, &byte) in block.cuts.iter().enumerate() {
+    fn check_cuts(&mut self, lattice: &Lattice, raw: &Block, state: &[u8]) {
+        for (offset, &byte) in raw.cuts.iter().enumerate() {
             if byte == 0 {
                 continue;
             }
             let end = lattice.end(offset / 7, offset % 7).unwrap();
             let mut codes = [state[offset / 7], state[end]];
             codes.sort();
-            let (number, at) = place_in(block, state, state.len() + offset);
+            let (number, at) = place_in(raw, state, state.len() + offset);
             if codes == [0, 0] {
                 assert_eq!(number, 0, "byte {offset}");
                 self.cuts += 1;
@@ -291,9 +295,11 @@ fn with_rim_zero() -> Block {
     Block::given_with(&[(27, 0)], &[(192, 0)])
 }
 
-/// Both fillings answer this T and M, and these points have these state bytes,
-/// all others 0; before the request, points coded 15 had 0 as well.
+/// Both fillings of the block made valid with the band answer this T and M, and
+/// these points have these state bytes, all others 0; before the request, points
+/// coded 15 had 0 as well.
 fn check_filled(block: &Block, band: u32, counts: [u64; 2], bytes: &[(usize, u8)]) -> Outcome {
+    let block = &for_band(block.clone(), band);
     let outcome = run_both(&Call::good(block.clone(), band, 0), 3);
     let [rows, moved] = counts;
     let place = 0;
@@ -337,8 +343,8 @@ fn the_given_case_with_sample_13_at_0() {
     assert_eq!(output, "points 35\nlattice 48\nmoved 0\nemitted 0\n");
 }
 
-/// "Sample in the band": 5 and -5 are at band 5, and not at band 4. The cut
-/// bytes stay, as those tests read raw samples; no cut has a place then.
+/// "Sample in the band": 5 and -5 are at band 5, and not at band 4. No cut has a
+/// place then, even by the cut table that has all fourteen.
 #[test]
 fn the_given_case_with_band_5() {
     let block = Block::given_case();
@@ -353,7 +359,7 @@ fn the_given_case_with_band_5() {
             assert_eq!(place_in(&block, &state, id), (8, [0; 3]));
         }
     }
-    // Byte 91 violates point 13, which does not move as it is in the band.
+    // Byte 91 violates point 13, which moves unless it is in the band.
     check_filled(&Block::given_with(&[], &[(91, 63)]), 5, [0, 0], &all);
     check_filled(&Block::given_with(&[], &[(91, 63)]), 4, [0, 1], &[(13, 1)]);
 }
@@ -419,7 +425,7 @@ fn moved_and_marked_points_side_by_side() {
 }
 
 /// The cut from 13 to 14 is byte 91, id 126, at 768, 512, 512. With sample 14 at
-/// -2 its byte stands at every band, and band 2 takes its place away.
+/// -2 band 2 takes its place away, even by a cut table that has its byte.
 #[test]
 fn a_cut_beside_a_marked_point() {
     let block = Block::given_with(&[(14, -2)], &[]);

@@ -8,7 +8,7 @@
 use reference::block::Block;
 use reference::blockfile::fill_block;
 use reference::damage::{nodes_call, NodesCall, NodesOutcome};
-use reference::generate::{any_band, any_block, block, crowded_block};
+use reference::generate::{any_band, any_block, block, crowded_block, for_band};
 use reference::generate::{Cutting, CUTTINGS, MIXES};
 use reference::nodes::{nodes, Numbered};
 use reference::place::place;
@@ -330,10 +330,11 @@ fn on_random_calls() {
     assert!(seen.empty > 100 && seen.without_rows > 400, "{seen:?}");
 }
 
-/// The call of a filled block with node tables that are exact, too long, too
-/// short by one number and by one node, and empty.
+/// The call of a filled block, which is made valid with the band, with node
+/// tables that are exact, too long, too short by one number and by one node, and
+/// empty.
 fn check_filled(seen: &mut Seen, random: &mut Random, block: Block, band: u32) {
-    let mut call = NodesCall::of_block(random, block, band, 40);
+    let mut call = NodesCall::of_block(random, for_band(block, band), band, 40);
     let exact = call.nodes.len() - 40;
     let [number_less, node_less] = [1, 4].map(|less| exact.saturating_sub(less));
     for length in [

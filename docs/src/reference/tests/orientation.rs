@@ -15,7 +15,7 @@
 use reference::block::Block;
 use reference::blockfile::fill_block;
 use reference::cut::{limit, place_of_cut, place_of_point, six_volume, Place};
-use reference::generate::{block, wide_band, CUTTINGS, MIXES};
+use reference::generate::{block, for_band, wide_band, CUTTINGS, MIXES};
 use reference::lattice::{Edge, Lattice, DIRECTIONS};
 use reference::plain::{id_of, move_points, place_of, rows_of, tetrahedra, Corner};
 use reference::random::Random;
@@ -70,7 +70,8 @@ fn swaps_follow_the_six_volume_in_all_patterns() {
             for _ in 0..12 {
                 let block = block(&mut random, [6, 6, 6], mix, cutting);
                 check_swaps(&block, 0, &mut seen);
-                check_swaps(&block, wide_band(&mut random, &block), &mut seen);
+                let band = wide_band(&mut random, &block);
+                check_swaps(&for_band(block, band), band, &mut seen);
             }
         }
     }
@@ -81,6 +82,7 @@ fn swaps_follow_the_six_volume_in_all_patterns() {
 fn check_swaps(block: &Block, band: u32, seen: &mut HashSet<(usize, usize, [i16; 4])>) {
     let lattice = block.lattice().unwrap();
     let tables = fill_block(block, band);
+    assert_eq!(tables.filled.number, 0);
     let moved = move_points(&lattice, band, &block.samples, &block.cuts);
     let mut rows = tables.rows.chunks_exact(4);
     let list = tetrahedra(&lattice);

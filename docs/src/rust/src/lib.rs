@@ -46,8 +46,12 @@
 //! assert_eq!(refusal, Refusal::CodeAt(1));
 //! assert_eq!(refusal.to_string(), "refused 9 1");
 //!
-//! // in a band of 5 all these samples count as zero: nothing is left to fill, and every point lies on the skin unmoved
-//! let filling = fill(sizes, 5, &samples, &cuts, &mut state, &mut rows)?;
+//! // in a band of 5 all these samples count as zero: no edge crosses the skin any more, and every cut byte is stray
+//! assert_eq!(fill(sizes, 5, &samples, &cuts, &mut state, &mut rows), Err(Refusal::Stray(30)));
+//! // mending with that band clears them: nothing is left to fill, and every point lies on the skin unmoved
+//! let mut cleared = cuts.clone();
+//! assert_eq!(mend(sizes, 5, &samples, &mut cleared)?, Mending { filled: 0, cleared: 14 });
+//! let filling = fill(sizes, 5, &samples, &cleared, &mut state, &mut rows)?;
 //! assert_eq!((filling.rows, filling.moved), (0, 0));
 //! assert!(state.iter().all(|&byte| byte == ON_SKIN && !is_move(byte)));
 //! assert_eq!(place(sizes, &cuts, &state, 13)?, [512, 512, 512]);
@@ -61,7 +65,7 @@
 //!
 //! // an old export: that byte is missing, and one stands where no edge crosses the skin
 //! cuts[0] = 7;
-//! assert_eq!(mend(sizes, &samples, &mut cuts)?, Mending { filled: 1, cleared: 1 });
+//! assert_eq!(mend(sizes, 0, &samples, &mut cuts)?, Mending { filled: 1, cleared: 1 });
 //! assert_eq!((cuts[91], cuts[0]), (128, 0));
 //! fill(sizes, 0, &samples, &cuts, &mut state, &mut rows)?;
 //! # Ok::<(), Refusal>(())
@@ -168,10 +172,12 @@ pub mod raw {
                 rows: *mut u32,
                 rows_len: usize,
             ) -> Filled;
+            #[allow(clippy::too_many_arguments)]
             pub fn yakuemi_mend(
                 nx: u32,
                 ny: u32,
                 nz: u32,
+                band: u32,
                 samples: *const i16,
                 samples_len: usize,
                 cuts: *mut u8,
@@ -252,9 +258,9 @@ pub mod raw {
     }
 
     /// Mending a cut table that the caller lends.
-    pub fn mend(sizes: [u32; 3], samples: &[i16], cuts: &mut [u8]) -> Mended {
+    pub fn mend(sizes: [u32; 3], band: u32, samples: &[i16], cuts: &mut [u8]) -> Mended {
         let [nx, ny, nz] = sizes;
-        unsafe { c::yakuemi_mend(nx, ny, nz, samples.as_ptr(), samples.len(), cuts.as_mut_ptr(), cuts.len()) }
+        unsafe { c::yakuemi_mend(nx, ny, nz, band, samples.as_ptr(), samples.len(), cuts.as_mut_ptr(), cuts.len()) }
     }
 
     /// The place of an id.
@@ -315,7 +321,7 @@ pub enum Refusal {
     Cuts,
     /// 4: the state table has not N bytes.
     State,
-    /// 5: this rim point's sample is above zero (the lowest such point).
+    /// 5: this rim point's sample is above the band (the lowest such point).
     Rim(u64),
     /// 6: this byte of the cut table is zero and must not be.
     Gap(u64),
@@ -447,8 +453,8 @@ pub fn measures(sizes: [u32; 3]) -> Result<Measures, Refusal> {
 /// nearest cut.
 ///
 /// The band is 0 to 32767. A sample whose size is at most the band counts as zero: its point lies on the skin and does not move, its state
-/// byte is [`ON_SKIN`], and no cut beside it is used. Take the largest size of the scanner's flicker, or 0 for none; with more, rubber whose
-/// samples are in the band is left out. Whether a block is refused for its rim or its cut bytes does not depend on the band.
+/// byte is [`ON_SKIN`], it may be a rim point, and a cut byte beside it must be 0: [`mend`] with the same band sees to that. Take the largest
+/// size of the scanner's flicker, or 0 for none; with more, rubber whose samples are in the band is left out.
 pub fn fill(
     sizes: [u32; 3],
     band: u32,
@@ -473,19 +479,20 @@ pub fn fill(
     }
 }
 
-/// Mends the cut table of an old export, N samples and 7N cut bytes, so that [`fill`] refuses it with neither 6 nor 7.
+/// Mends the cut table of an old export, N samples and 7N cut bytes, so that [`fill`] with the same band refuses it with neither 6 nor 7.
 ///
 /// A missing byte becomes 256 times the size of the sample at the edge's start, divided by the sum of both ends' sizes, rounded half up and
 /// held within 1 to 255: within 1/2 of the quotient, or within less than 1 where it was held, which is proved. That is a straight-line
-/// guess, and a scanner's own cut is better. A stray byte becomes 0, good bytes stay, and a refusal changes nothing. The samples are
-/// read as they are, without a band.
-pub fn mend(sizes: [u32; 3], samples: &[i16], cuts: &mut [u8]) -> Result<Mending, Refusal> {
-    let m = raw::mend(sizes, samples, cuts);
+/// guess, and a scanner's own cut is better. A stray byte becomes 0, good bytes stay, and a refusal changes nothing. A byte beside a
+/// sample in the band is stray, and what is cleared is gone: mend a copy if a smaller band may follow.
+pub fn mend(sizes: [u32; 3], band: u32, samples: &[i16], cuts: &mut [u8]) -> Result<Mending, Refusal> {
+    let m = raw::mend(sizes, band, samples, cuts);
     match m.number {
         0 => Ok(Mending { filled: m.filled, cleared: m.cleared }),
         1 => Err(Refusal::Size),
         2 => Err(Refusal::Samples),
         3 => Err(Refusal::Cuts),
+        14 => Err(Refusal::Band),
         n => Err(Refusal::Other(n)),
     }
 }

@@ -1,11 +1,12 @@
 //! Times filling, mending, places in millimetres and node tables beside the separate software: the same blocks, tables and process, turn and
 //! turn about. Tables are lent as the call before left them, to mending as the block has them, to node tables with the rows that filling
 //! wrote; the first call of each is not counted. Prints the best and the middle of the times. `sphere+` is the sphere with a band that takes
-//! in a tenth of its points; the others have band 0. `sphere-` is the sphere with its cut table emptied. `ask` is a call for the node table
-//! that is lent none, and so answers how many nodes there are.
+//! in a tenth of its points, filled without the cut bytes beside these, which mending clears; the others have band 0. `sphere-` is the sphere
+//! with its cut table emptied. `ask` is a call for the node table that is lent none, and so answers how many nodes there are.
 use reference::block::Block;
 use reference::blockfile::fill_block;
 use reference::damage::Filling;
+use reference::generate::for_band;
 use reference::mend::Mending;
 use reference::metric::place_mm;
 use reference::nodes::Numbering;
@@ -54,20 +55,24 @@ fn compare_on(name: &str, block: &Block, band: u32) {
         [a, b]
     });
     let rate = |t: f64| count as f64 / t;
-    let said = if band > 0 { format!(" | band {band}") } else { String::new() };
     println!(
-        "{name:7} {count:9} rows | library {:7.2} ms best, {:7.2} middle, {:9.0} rows/ms | separate {:7.2} ms best, {:7.2} middle, {:9.0} rows/ms | ratio {:.2}{said}",
-        a.best, a.middle, rate(a.best), b.best, b.middle, rate(b.best), a.best / b.best
+        "{name:7} {count:9} rows | library {:7.2} ms best, {:7.2} middle, {:9.0} rows/ms | separate {:7.2} ms best, {:7.2} middle, {:9.0} rows/ms | ratio {:.2}{}",
+        a.best, a.middle, rate(a.best), b.best, b.middle, rate(b.best), a.best / b.best, said(band)
     );
 }
 
+/// What a line says of its band.
+fn said(band: u32) -> String {
+    if band > 0 { format!(" | band {band}") } else { String::new() }
+}
+
 /// Mending of a block's cut table. Its bytes are put back before each call, outside the time. Counted are those that change.
-fn compare_mending_of(name: &str, block: &Block) {
+fn compare_mending_of(name: &str, block: &Block, band: u32) {
     let (mut cuts, [nx, ny, nz]) = (block.cuts.clone(), block.sizes);
     let mut timed = |mending: Mending| {
         cuts.copy_from_slice(&block.cuts);
         let began = Instant::now();
-        let mended = mending(nx, ny, nz, &block.samples, &mut cuts);
+        let mended = mending(nx, ny, nz, band, &block.samples, &mut cuts);
         let took = began.elapsed().as_secs_f64() * 1000.0;
         assert_eq!(mended.number, 0);
         (took, mended)
@@ -80,8 +85,8 @@ fn compare_mending_of(name: &str, block: &Block) {
         [a, b]
     });
     println!(
-        "{name:7} {count:9} mend | library {:7.2} ms best, {:7.2} middle | separate {:7.2} ms best, {:7.2} middle | ratio {:.2}",
-        a.best, a.middle, b.best, b.middle, a.best / b.best
+        "{name:7} {count:9} mend | library {:7.2} ms best, {:7.2} middle | separate {:7.2} ms best, {:7.2} middle | ratio {:.2}{}",
+        a.best, a.middle, b.best, b.middle, a.best / b.best, said(band)
     );
 }
 
@@ -144,10 +149,12 @@ fn main() {
     compare_on("sphere", &sphere, 0);
     compare_on("air", &air(), 0);
     compare_on("ribs", &ribs(), 0);
-    compare_on("sphere+", &sphere, tenth_band(&sphere));
-    compare_mending_of("sphere-", &emptied(sphere.clone()));
-    compare_mending_of("sphere", &sphere);
-    compare_mending_of("air", &air());
+    let band = tenth_band(&sphere);
+    compare_on("sphere+", &for_band(sphere.clone(), band), band);
+    compare_mending_of("sphere-", &emptied(sphere.clone()), 0);
+    compare_mending_of("sphere", &sphere, 0);
+    compare_mending_of("sphere+", &sphere, band);
+    compare_mending_of("air", &air(), 0);
     compare_places_of("sphere", &sphere);
     compare_nodes_of("sphere", &sphere);
 }

@@ -1,6 +1,6 @@
 -- The two points are compared where the edge exists. Assumes nothing.
 use mathlib.Core.Path.{sym, _∙_}
-use Rattle.moving.specs.Label.{signs}
+use Rattle.moving.specs.Label.{labels}
 use Rattle.checks.proofs.Edges.{asked-in, far-asked, edge-crosses, no-edge-crosses}
 use borrow.Author.Needs.{needs}
 use Rattle.checks.proofs.crossing.crosses.Statement.{statement}
@@ -21,14 +21,14 @@ returns c =
     let at-start = at-there .before in
     let p = at-start .pre in
     c .are-opposed .ensures
-    ∙ edge-crosses _ _ (p .0 .sized) (p .0 .sited) _ (p .1 .1 .0) (p .1 .1 .1) (signs (at-start .args .samples .now))
+    ∙ edge-crosses _ _ (p .0 .sized) (p .0 .sited) _ (p .1 .1 .0) (p .1 .1 .1) (labels (at-start .args .band) (at-start .args .samples .now))
     (sym (at-there .is-there .ensures) ∙ c .before .if1 .taken)
 
 returns-2 : tie.Need-returns-2
 returns-2 c =
     let at-start = c .before .before in
     let p = at-start .pre in
-    no-edge-crosses _ _ (p .0 .sized) (p .0 .sited) _ (p .1 .1 .0) (p .1 .1 .1) (signs (at-start .args .samples .now))
+    no-edge-crosses _ _ (p .0 .sized) (p .0 .sited) _ (p .1 .1 .0) (p .1 .1 .1) (labels (at-start .args .band) (at-start .args .samples .now))
     (sym (c .before .is-there .ensures) ∙ c .if1 .left)
 
 pub crosses-spec : {M : Type 1} → statement M

@@ -4,16 +4,16 @@ use native.Mathlib.Omega.{arith}
 use mathlib.Core.Path.{refl, ap}
 use mathlib.Core.List.{List}
 use lib.ListN.{getD}
-use Rattle.moving.specs.Label.{signs}
+use Rattle.moving.specs.Label.{labels}
 use Rattle.checks.proofs.Edges.{Marked, marked-more, marked}
 use Rattle.checks.proofs.crossing.crossings.Statement.{statement}
 use Rattle.checks.proofs.crossing.crossings.Tie as tie
 
 abbrev Inv-loop : tie.InvT-loop
-Inv-loop s samples q far outer must₀ d₀ must d = (d ≤ 7) × Marked s (signs samples) (q .own) must d
+Inv-loop s band samples q far outer must₀ d₀ must d = (d ≤ 7) × Marked s (labels band samples) (q .own) must d
 
 abbrev μ-loop : tie.MeasureT-loop
-μ-loop s samples q far outer must₀ d₀ must d = 7 - d
+μ-loop s band samples q far outer must₀ d₀ must d = 7 - d
 
 ahead-requires : tie.Need-ahead-requires Inv-loop μ-loop
 ahead-requires c κs = (c .pre .sized, c .pre .sited)

@@ -1,7 +1,7 @@
 -- The loop's invariant: q starts a line, and no byte before it is at fault. Assumes nothing.
 use Prim.Native.Nat.{_*_, _-_}
 use native.Mathlib.Omega.{arith}
-use Rattle.moving.specs.Label.{signs}
+use Rattle.moving.specs.Label.{labels}
 use Rattle.filling.specs.Check.{cutFault}
 use Rattle.ground.specs.inner.Lines.{Line}
 use Rattle.ground.proofs.Points.{points-some}
@@ -15,10 +15,10 @@ use Rattle.checks.proofs.cuts.first_cut.Statement.{statement}
 use Rattle.checks.proofs.cuts.first_cut.Tie as tie
 
 abbrev Inv-loop : tie.InvT-loop
-Inv-loop s samples cuts n q₀ q = Line s (q .own) q × Throughout (cutFault s (signs samples) cuts) 0 0 (7 * q .own)
+Inv-loop s band samples cuts n q₀ q = Line s (q .own) q × Throughout (cutFault s (labels band samples) cuts) 0 0 (7 * q .own)
 
 abbrev μ-loop : tie.MeasureT-loop
-μ-loop s samples cuts n q₀ q = n - q .own
+μ-loop s band samples cuts n q₀ q = n - q .own
 
 point-count-requires : tie.Need-point-count-requires Inv-loop μ-loop
 point-count-requires c κs = c .before .pre .sized

@@ -4,7 +4,7 @@ use native.Mathlib.Omega.{arith}
 use mathlib.Core.Path.{_≡_}
 use Rattle.lattice.specs.Axis.{along-x}
 use Rattle.lattice.specs.Counts.{grid}
-use Rattle.moving.specs.Label.{signs}
+use Rattle.moving.specs.Label.{labels}
 use Rattle.filling.specs.Check.{cutFault}
 use Rattle.checks.specs.inner.Search.{Throughout}
 use Rattle.checks.specs.inner.Faults.{fine, gap, stray}
@@ -17,12 +17,12 @@ use Rattle.checks.proofs.cuts.line_search.Statement.{statement}
 use Rattle.checks.proofs.cuts.line_search.Tie as tie
 
 abbrev Inv-loop : tie.InvT-loop
-Inv-loop s samples cuts q from m x₀ x =
+Inv-loop s band samples cuts q from m x₀ x =
     (from ≤ x) × (x ≤ m) × (m ≡ grid s (q .kind) along-x) × (m ≤ 65)
-    × Throughout (cutFault s (signs samples) cuts) 0 (7 * (q .own + from)) (7 * (q .own + x))
+    × Throughout (cutFault s (labels band samples) cuts) 0 (7 * (q .own + from)) (7 * (q .own + x))
 
 abbrev μ-loop : tie.MeasureT-loop
-μ-loop s samples cuts q from m x₀ x = m - x
+μ-loop s band samples cuts q from m x₀ x = m - x
 
 line-length-requires : tie.Need-line-length-requires Inv-loop μ-loop
 line-length-requires c κs = c .before .pre .0 .sized

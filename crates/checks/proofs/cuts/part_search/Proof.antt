@@ -6,7 +6,7 @@ use lib.ListN.{length-take, length-drop}
 use Rattle.lattice.specs.Axis.{along-x}
 use Rattle.lattice.specs.Counts.{grid}
 use Rattle.lattice.proofs.Sites.{numbers-small}
-use Rattle.moving.specs.Label.{signs}
+use Rattle.moving.specs.Label.{labels}
 use Rattle.filling.specs.Check.{cutFault}
 use Rattle.ground.proofs.Points.{sited}
 use Rattle.ground.proofs.Lines.{line-stands}
@@ -21,11 +21,12 @@ use Rattle.checks.proofs.cuts.part_search.Statement.{statement}
 use Rattle.checks.proofs.cuts.part_search.Tie as tie
 
 abbrev Inv-loop : tie.InvT-loop
-Inv-loop s samples cuts q from to own x₀ x =
-    Room s own (grid s (q .kind) along-x) × (from ≤ x) × (x ≤ to) × Throughout (cutFault s (signs samples) cuts) 0 (7 * (own + from)) (7 * (own + x))
+Inv-loop s band samples cuts q from to own x₀ x =
+    Room s own (grid s (q .kind) along-x) × (from ≤ x) × (x ≤ to)
+    × Throughout (cutFault s (labels band samples) cuts) 0 (7 * (own + from)) (7 * (own + x))
 
 abbrev μ-loop : tie.MeasureT-loop
-μ-loop s samples cuts q from to own x₀ x = to - x
+μ-loop s band samples cuts q from to own x₀ x = to - x
 
 loop-holds : tie.Need-loop-holds Inv-loop μ-loop
 loop-holds c =
@@ -71,8 +72,8 @@ enum-told c = search needs
 enum-known-found : tie.Need-enum-known-found Inv-loop μ-loop
 enum-known-found c = search needs
 
-add-t20 : tie.Need-add-t20 Inv-loop μ-loop
-add-t20 c =
+add-t21 : tie.Need-add-t21 Inv-loop μ-loop
+add-t21 c =
     let at-site = c .before .before .before in
     omega (arith, gap-of (at-site .site-fault .ensures) (c .before .found .given .1) .high)
 
@@ -90,8 +91,8 @@ returns c =
 enum-known-found-2 : tie.Need-enum-known-found-2 Inv-loop μ-loop
 enum-known-found-2 c = search needs
 
-add-t21 : tie.Need-add-t21 Inv-loop μ-loop
-add-t21 c =
+add-t22 : tie.Need-add-t22 Inv-loop μ-loop
+add-t22 c =
     let at-site = c .before .before .before in
     omega (arith, stray-of (at-site .site-fault .ensures) (c .before .found2 .given .1) .high)
 
@@ -143,10 +144,10 @@ part-search-spec =
     site-fault-requires
     enum-told
     enum-known-found
-    add-t20
+    add-t21
     returns
     enum-known-found-2
-    add-t21
+    add-t22
     returns-2
     add-x
     loop-less

@@ -1,7 +1,6 @@
 -- The samples that were read are those that are there. Assumes nothing.
 use mathlib.Core.Path.{_∙_}
-use Rattle.moving.specs.Label.{signs}
-use Rattle.moving.proofs.Band.{opposed-raw}
+use Rattle.moving.specs.Label.{labels}
 use Rattle.ground.proofs.Labels.{opposed-handed}
 use borrow.Author.Needs.{needs}
 use Rattle.checks.proofs.points.are_opposed.Statement.{statement}
@@ -23,11 +22,10 @@ opposite-requires : tie.Need-opposite-requires
 opposite-requires c κs = search needs
 
 returns : tie.Need-returns
-unfolding signs
+unfolding labels
 returns c =
     c .opposite .ensures
-    ∙ opposed-handed 0 _ _ (c .before .before .opposite-arg .given) (c .before .opposite-arg2 .given)
-    ∙ opposed-raw _ _
+    ∙ opposed-handed _ _ _ (c .before .before .opposite-arg .given) (c .before .opposite-arg2 .given)
 
 pub are-opposed-spec : {M : Type 1} → statement M
 are-opposed-spec =

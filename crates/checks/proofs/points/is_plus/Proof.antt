@@ -1,7 +1,6 @@
 -- The sample that was read is the one that is there. Assumes nothing.
-use mathlib.Core.Path.{ap, _∙_}
-use Rattle.moving.specs.Label.{signs, isPlus}
-use Rattle.moving.proofs.Band.{label-raw}
+use mathlib.Core.Path.{_∙_}
+use Rattle.moving.specs.Label.{labels}
 use Rattle.ground.proofs.Labels.{plus-handed}
 use borrow.Author.Needs.{needs}
 use Rattle.checks.proofs.points.is_plus.Statement.{statement}
@@ -17,8 +16,8 @@ is-plus-requires : tie.Need-is-plus-requires
 is-plus-requires c κs = search needs
 
 returns : tie.Need-returns
-unfolding signs
-returns c = c .is-plus .ensures ∙ plus-handed 0 _ (c .before .is-plus-arg .given) ∙ ap isPlus (label-raw _)
+unfolding labels
+returns c = c .is-plus .ensures ∙ plus-handed _ _ (c .before .is-plus-arg .given)
 
 pub is-plus-spec : {M : Type 1} → statement M
 is-plus-spec =

@@ -6,16 +6,16 @@ use mathlib.Core.Bool.{false}
 use lib.Dec.{T}
 use lib.ListN.{getD}
 use borrow.Author.Count.{below-more}
-use Rattle.moving.specs.Label.{signs, opposed}
+use Rattle.moving.specs.Label.{labels, opposed}
 use Rattle.checks.proofs.quiet.is_calm.Statement.{statement}
 use Rattle.checks.proofs.quiet.is_calm.Tie as tie
 
 abbrev Inv-loop : tie.InvT-loop
-Inv-loop samples own ends d₀ d =
-    (d ≤ 7) × ((j : ℕ) → j < d → opposed (signs samples own) (signs samples (getD ends j 0)) ≡ false)
+Inv-loop band samples own ends d₀ d =
+    (d ≤ 7) × ((j : ℕ) → j < d → opposed (labels band samples own) (labels band samples (getD ends j 0)) ≡ false)
 
 abbrev μ-loop : tie.MeasureT-loop
-μ-loop samples own ends d₀ d = 7 - d
+μ-loop band samples own ends d₀ d = 7 - d
 
 loop-holds : tie.Need-loop-holds Inv-loop μ-loop
 loop-holds c = (omega arith, λ j l. absurd (omega arith))

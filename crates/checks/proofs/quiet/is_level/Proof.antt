@@ -1,4 +1,4 @@
--- The loop's invariant: no sample of the ranges before k has the sign. Assumes nothing.
+-- The loop's invariant: no sample of the ranges before k has the label. Assumes nothing.
 use Prim.Native.Nat.{ℕ, _+_, _-_, _≤_, _<_}
 use native.Mathlib.Omega.{arith}
 use mathlib.Core.Path.{_≡_, sym, subst}
@@ -13,11 +13,11 @@ use Rattle.checks.proofs.quiet.is_level.Statement.{statement}
 use Rattle.checks.proofs.quiet.is_level.Tie as tie
 
 abbrev Inv-loop : tie.InvT-loop
-Inv-loop plus samples m starts k₀ k =
-    (k ≤ 5) × ((j : ℕ) → j < k → (y : ℕ) → y ≤ m → hasLabel plus 0 (getD samples (getD starts j 0 + y) (pos 0)) ≡ false)
+Inv-loop plus band samples m starts k₀ k =
+    (k ≤ 5) × ((j : ℕ) → j < k → (y : ℕ) → y ≤ m → hasLabel plus band (getD samples (getD starts j 0 + y) (pos 0)) ≡ false)
 
 abbrev μ-loop : tie.MeasureT-loop
-μ-loop plus samples m starts k₀ k = 5 - k
+μ-loop plus band samples m starts k₀ k = 5 - k
 
 loop-holds : tie.Need-loop-holds Inv-loop μ-loop
 loop-holds c = (omega arith, λ j l. absurd (omega arith))
@@ -51,7 +51,7 @@ loop-again c =
     let at-loop = c .before .before .before in
     let a = at-loop .before .args in
     let P : ℕ → Type 0
-    = λ j. (y : ℕ) → y ≤ a .m → hasLabel (a .plus) 0 (getD (a .samples .now) (getD (a .t3) j 0 + y) (pos 0)) ≡ false in
+    = λ j. (y : ℕ) → y ≤ a .m → hasLabel (a .plus) (a .band) (getD (a .samples .now) (getD (a .t4) j 0 + y) (pos 0)) ≡ false in
     let more = c .before .has-some .ensures (c .if1 .left) in
     (omega arith, below-more P (at-loop .loop .k) (at-loop .loop .inv .1) (λ y h. more _ (omega arith) (omega arith)))
 

@@ -1,4 +1,4 @@
--- Bytes that are blank, and five ranges that are level for one sign or the other. Assumes nothing.
+-- Bytes that are blank, and five ranges that are level for one label or the other. Assumes nothing.
 use native.Mathlib.Omega.{arith}
 use mathlib.Core.Path.{refl, sym, subst}
 use lib.Dec.{T}

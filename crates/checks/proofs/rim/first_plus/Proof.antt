@@ -1,19 +1,19 @@
--- The loop's invariant: no point before p is above zero. Assumes nothing.
+-- The loop's invariant: no point before p is plus. Assumes nothing.
 use Prim.Native.Nat.{ℕ, _-_, _≤_}
 use native.Mathlib.Omega.{arith}
 use mathlib.Core.Path.{sym, _∙_}
 use mathlib.Core.Bool.{false}
-use Rattle.moving.specs.Label.{signs, isPlus}
+use Rattle.moving.specs.Label.{labels, isPlus}
 use Rattle.checks.specs.inner.Search.{Throughout}
 use Rattle.checks.proofs.Search.{none-yet, one-more, here, nowhere, upto}
 use Rattle.checks.proofs.rim.first_plus.Statement.{statement}
 use Rattle.checks.proofs.rim.first_plus.Tie as tie
 
 abbrev Inv-loop : tie.InvT-loop
-Inv-loop samples from to p₀ p = (from ≤ p) × (p ≤ to) × Throughout (λ (j : ℕ). isPlus (signs samples j)) false from p
+Inv-loop band samples from to p₀ p = (from ≤ p) × (p ≤ to) × Throughout (λ (j : ℕ). isPlus (labels band samples j)) false from p
 
 abbrev μ-loop : tie.MeasureT-loop
-μ-loop samples from to p₀ p = to - p
+μ-loop band samples from to p₀ p = to - p
 
 loop-holds : tie.Need-loop-holds Inv-loop μ-loop
 loop-holds c = (omega arith, omega arith, none-yet (omega arith))

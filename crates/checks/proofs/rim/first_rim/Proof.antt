@@ -3,7 +3,7 @@ use Prim.Native.Nat.{_-_}
 use native.Mathlib.Omega.{arith}
 use mathlib.Core.Path.{_∙_}
 use mathlib.Core.Bool.{false}
-use Rattle.moving.specs.Label.{signs}
+use Rattle.moving.specs.Label.{labels}
 use Rattle.filling.specs.Check.{rimFault}
 use Rattle.ground.specs.inner.Lines.{Line}
 use Rattle.ground.proofs.Points.{points-some}
@@ -15,10 +15,10 @@ use Rattle.checks.proofs.rim.first_rim.Statement.{statement}
 use Rattle.checks.proofs.rim.first_rim.Tie as tie
 
 abbrev Inv-loop : tie.InvT-loop
-Inv-loop s samples n q₀ q = Line s (q .own) q × Throughout (rimFault s (signs samples)) false 0 (q .own)
+Inv-loop s band samples n q₀ q = Line s (q .own) q × Throughout (rimFault s (labels band samples)) false 0 (q .own)
 
 abbrev μ-loop : tie.MeasureT-loop
-μ-loop s samples n q₀ q = n - q .own
+μ-loop s band samples n q₀ q = n - q .own
 
 point-count-requires : tie.Need-point-count-requires Inv-loop μ-loop
 point-count-requires c κs = c .pre .0

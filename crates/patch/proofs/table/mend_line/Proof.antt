@@ -1,6 +1,6 @@
 -- A glance, or point by point. Assumes nothing.
 use native.Mathlib.Omega.{arith}
-use Rattle.moving.specs.Label.{signs}
+use Rattle.moving.specs.Label.{labels}
 use Rattle.patch.proofs.Mends.{fine-part}
 use Rattle.patch.proofs.Line.{line-fine}
 use borrow.Author.Needs.{needs}
@@ -21,7 +21,7 @@ returns c =
     let at-quiet = c .before .before in
     let at-start = at-quiet .before .before .before in
     let samples = at-start .args .samples .now in
-    let fine = line-fine (at-start .args .s) (signs samples) samples (at-start .args .cuts .now) (at-start .args .q)
+    let fine = line-fine (at-start .args .s) (labels (at-start .args .band) samples) samples (at-start .args .cuts .now) (at-start .args .q)
     (at-quiet .is-quiet-line .ensures (c .before .if1 .taken)) in
     fine-part (omega arith) fine (c .nothing .ensures)
 

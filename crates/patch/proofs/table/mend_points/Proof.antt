@@ -2,7 +2,7 @@
 use Prim.Native.Nat.{_+_, _*_, _-_, _≤_}
 use native.Mathlib.Omega.{arith}
 use mathlib.Core.Path.{refl, _∙_}
-use Rattle.moving.specs.Label.{signs}
+use Rattle.moving.specs.Label.{labels}
 use Rattle.checks.proofs.Walk.{Room, room}
 use Rattle.patch.specs.inner.Mends.{Mends, tableDue}
 use Rattle.patch.proofs.Mends.{counts, spelt, joined, few}
@@ -11,12 +11,12 @@ use Rattle.patch.proofs.table.mend_points.Statement.{statement}
 use Rattle.patch.proofs.table.mend_points.Tie as tie
 
 abbrev Inv-loop : tie.InvT-loop
-Inv-loop s samples cuts₀ q m filled₀ cleared₀ x₀ cuts filled cleared x =
+Inv-loop s band samples cuts₀ q m filled₀ cleared₀ x₀ cuts filled cleared x =
     Room s (q .own) m × (x ≤ m)
-    × Mends (tableDue s (signs samples) samples) (7 * q .own) (7 * (q .own + x)) cuts₀ cuts (counts filled cleared)
+    × Mends (tableDue s (labels band samples) samples) (7 * q .own) (7 * (q .own + x)) cuts₀ cuts (counts filled cleared)
 
 abbrev μ-loop : tie.MeasureT-loop
-μ-loop s samples cuts₀ q m filled₀ cleared₀ x₀ cuts filled cleared x = m - x
+μ-loop s band samples cuts₀ q m filled₀ cleared₀ x₀ cuts filled cleared x = m - x
 
 line-length-requires : tie.Need-line-length-requires Inv-loop μ-loop
 line-length-requires c κs = c .before .pre .0 .sized
@@ -35,7 +35,7 @@ loop-holds c =
     let a = at-start .args in (
       room (at-start .pre .0 .sized) (at-start .pre .1) e,
       omega (arith, f .high),
-      spelt (omega arith) refl (fine-to (a .s) (signs (a .samples .now)) (a .samples .now) (a .cuts .now) (a .q) 0 _ f),
+      spelt (omega arith) refl (fine-to (a .s) (labels (a .band) (a .samples .now)) (a .samples .now) (a .cuts .now) (a .q) 0 _ f),
     )
 
 mend-point-requires : tie.Need-mend-point-requires Inv-loop μ-loop
@@ -90,7 +90,7 @@ loop-again c =
     let e = at-length .line-length .ensures .0 in
     let f = c .next-fault2 .ensures in
     let a = at-start .args in
-    let rest = fine-to (a .s) (signs (a .samples .now)) (a .samples .now) _ (a .q) _ _ f in
+    let rest = fine-to (a .s) (labels (a .band) (a .samples .now)) (a .samples .now) _ (a .q) _ _ f in
     let here = joined (at-loop .loop .inv .2) (at-point .mend-point .ensures) (omega arith) (omega arith) refl refl in (
       at-loop .loop .inv .0,
       omega (arith, f .high),

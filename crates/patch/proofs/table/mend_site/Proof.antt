@@ -14,7 +14,7 @@ mend-seven-requires : tie.Need-mend-seven-requires
 mend-seven-requires c κs =
     let at-crossings = c .before .before in
     let at-start = at-crossings .before .before in
-    (site-ends (at-start .pre .0) (at-crossings .crossings .ensures) (c .before .ahead .ensures), at-start .pre .1)
+    (site-ends (at-start .args .band) (at-start .pre .0) (at-crossings .crossings .ensures) (c .before .ahead .ensures), at-start .pre .1)
 
 same-length : tie.Need-same-length
 same-length c = search needs
@@ -25,7 +25,8 @@ returns c =
     let at-ahead = at-seven .before .before in
     let at-crossings = at-ahead .before in
     let at-start = at-crossings .before .before in
-    site-mended (at-start .pre .0) (at-crossings .crossings .ensures) (at-ahead .ahead .ensures) (at-seven .mend-seven .ensures)
+    site-mended (at-start .args .band) (at-start .pre .0) (at-crossings .crossings .ensures) (at-ahead .ahead .ensures)
+    (at-seven .mend-seven .ensures)
 
 pub mend-site-spec : {M : Type 1} → statement M
 mend-site-spec =

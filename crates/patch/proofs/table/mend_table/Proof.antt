@@ -2,7 +2,7 @@
 use Prim.Native.Nat.{_*_, _-_}
 use native.Mathlib.Omega.{arith}
 use mathlib.Core.Path.{refl, _∙_}
-use Rattle.moving.specs.Label.{signs}
+use Rattle.moving.specs.Label.{labels}
 use Rattle.ground.specs.inner.Lines.{Line}
 use Rattle.ground.proofs.Points.{points-some}
 use Rattle.ground.proofs.Lines.{line-self, line-fits}
@@ -14,11 +14,11 @@ use Rattle.patch.proofs.table.mend_table.Statement.{statement}
 use Rattle.patch.proofs.table.mend_table.Tie as tie
 
 abbrev Inv-loop : tie.InvT-loop
-Inv-loop s samples cuts₀ n q₀ filled₀ cleared₀ cuts q filled cleared =
-    Line s (q .own) q × Mends (tableDue s (signs samples) samples) 0 (7 * q .own) cuts₀ cuts (counts filled cleared)
+Inv-loop s band samples cuts₀ n q₀ filled₀ cleared₀ cuts q filled cleared =
+    Line s (q .own) q × Mends (tableDue s (labels band samples) samples) 0 (7 * q .own) cuts₀ cuts (counts filled cleared)
 
 abbrev μ-loop : tie.MeasureT-loop
-μ-loop s samples cuts₀ n q₀ filled₀ cleared₀ cuts q filled cleared = n - q .own
+μ-loop s band samples cuts₀ n q₀ filled₀ cleared₀ cuts q filled cleared = n - q .own
 
 point-count-requires : tie.Need-point-count-requires Inv-loop μ-loop
 point-count-requires c κs = c .before .pre .sized

@@ -1,6 +1,6 @@
 -- The point of the first byte at fault. Assumes nothing.
 use native.Mathlib.Omega.{arith}
-use Rattle.moving.specs.Label.{signs}
+use Rattle.moving.specs.Label.{labels}
 use Rattle.checks.proofs.Faults.{fine-of, gap-of, stray-of}
 use Rattle.checks.proofs.Search.{upto}
 use Rattle.patch.proofs.Line.{in-line, to-fault}
@@ -24,7 +24,7 @@ sub-result : tie.Need-sub-result
 sub-result c =
     let at-found = c .before .before in
     let a = at-found .before .before .before .before .args in
-    in-line (a .s) (signs (a .samples .now)) (a .cuts .now) (a .q) (a .from)
+    in-line (a .s) (labels (a .band) (a .samples .now)) (a .cuts .now) (a .q) (a .from)
     (gap-of (at-found .before .before .line-search .ensures) (at-found .found .given .1))
 
 enum-known-found-2 : tie.Need-enum-known-found-2
@@ -34,7 +34,7 @@ sub-result-2 : tie.Need-sub-result-2
 sub-result-2 c =
     let at-found = c .before .before in
     let a = at-found .before .before .before .before .args in
-    in-line (a .s) (signs (a .samples .now)) (a .cuts .now) (a .q) (a .from)
+    in-line (a .s) (labels (a .band) (a .samples .now)) (a .cuts .now) (a .q) (a .from)
     (stray-of (at-found .before .before .line-search .ensures) (at-found .found2 .given .1))
 
 returns : tie.Need-returns
@@ -52,14 +52,14 @@ returns-2 : tie.Need-returns-2
 returns-2 c =
     let at-found = c .before .before in
     let a = at-found .before .before .before .before .args in
-    to-fault (a .s) (signs (a .samples .now)) (a .cuts .now) (a .q) (a .from)
+    to-fault (a .s) (labels (a .band) (a .samples .now)) (a .cuts .now) (a .q) (a .from)
     (gap-of (at-found .before .before .line-search .ensures) (at-found .found .given .1))
 
 returns-3 : tie.Need-returns-3
 returns-3 c =
     let at-found = c .before .before in
     let a = at-found .before .before .before .before .args in
-    to-fault (a .s) (signs (a .samples .now)) (a .cuts .now) (a .q) (a .from)
+    to-fault (a .s) (labels (a .band) (a .samples .now)) (a .cuts .now) (a .q) (a .from)
     (stray-of (at-found .before .before .line-search .ensures) (at-found .found2 .given .1))
 
 pub next-fault-spec : {M : Type 1} → statement M

@@ -5,6 +5,7 @@
 use reference::block::Block;
 use reference::damage::NodesCall;
 use reference::fill::{fill, Filled};
+use reference::generate::for_band;
 use reference::mend::mend;
 use reference::nodes::nodes;
 use reference::shapes;
@@ -18,17 +19,20 @@ fn main() {
         report(name, block, 0, runs);
     }
     let band = shapes::tenth_band(&sphere);
-    report(&format!("sphere, band {band}"), &sphere, band, runs);
+    let banded = for_band(sphere.clone(), band);
+    report(&format!("sphere, band {band}"), &banded, band, runs);
+    let emptied = |block: &Block| shapes::emptied(block.clone());
     for (name, block) in [
-        (
-            "sphere with an empty table",
-            &shapes::emptied(sphere.clone()),
-        ),
+        ("sphere with an empty table", &emptied(&sphere)),
         ("sphere with a good table", &sphere),
         ("air", &air),
-        ("ribs with an empty table", &shapes::emptied(ribs.clone())),
+        ("ribs with an empty table", &emptied(&ribs)),
     ] {
-        report_mending(name, block, runs);
+        report_mending(name, block, 0, runs);
+    }
+    for (name, block) in [("of band 0", &sphere), ("of this band", &banded)] {
+        let name = format!("sphere with the good table {name}, band {band}");
+        report_mending(&name, block, band, runs);
     }
     report_nodes("sphere", &NodesCall::of_sphere(), runs);
 }
@@ -57,13 +61,13 @@ fn report(name: &str, block: &Block, band: u32, runs: usize) {
 }
 
 /// The same for mending; the table is made anew for each run, beside its time.
-fn report_mending(name: &str, block: &Block, runs: usize) {
+fn report_mending(name: &str, block: &Block, band: u32, runs: usize) {
     let [nx, ny, nz] = block.sizes;
     let mut cuts = block.cuts.clone();
     let mut run = || {
         cuts.copy_from_slice(&block.cuts);
         let begin = Instant::now();
-        let mended = mend(nx, ny, nz, &block.samples, &mut cuts);
+        let mended = mend(nx, ny, nz, band, &block.samples, &mut cuts);
         (begin.elapsed().as_secs_f64() * 1e3, mended)
     };
     let times = best_and_middle((0..runs).map(|_| run().0).collect());

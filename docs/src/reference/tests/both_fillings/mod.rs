@@ -1,5 +1,5 @@
 //! One call made with both fillings, for `tests/agreement.rs`, `tests/band.rs`,
-//! `tests/marks.rs` and `tests/stray.rs`.
+//! `tests/band_first.rs`, `tests/marks.rs` and `tests/stray.rs`.
 
 use reference::damage::{Call, Outcome};
 use reference::fill::fill;
