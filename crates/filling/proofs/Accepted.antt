@@ -18,7 +18,7 @@ use Rattle.moving.proofs.Band.{banded-fits}
 use Rattle.filling.specs.Check.{rimFault, cutFault, Accepted}
 use Rattle.filling.specs.Fill.{Outcome, written, fill}
 use Rattle.filling.proofs.Tests.{rimBy, cutBy, faulty, fine-so, so-fine}
-use Rattle.filling.proofs.Tests.{cutTests, Late, late, fill-is, not-five, cut-none, byte-named, cut-passed}
+use Rattle.filling.proofs.Tests.{cutTests, Late, fill-is, after-rim, cut-none, byte-named, cut-passed}
 
 -- the labels of a block's points, and its first faults
 abbrev pub labelIn : ℕ → Block → ℕ → Label
@@ -43,22 +43,18 @@ module _ (band : ℕ) (b : Block) (state rows : List ℕ) where
     pub state-long : length state ≡ points (b .sizes)
     pub is : fill band b state rows ≡ written state rows (readingOf band b)
 
-  -- an answer that comes after the tests of the rim
-  after-rim : (m : ℕ) → (m ≡ 0) ⊎ ((6 ≤ m) × (m ≤ 10)) → fill band b state rows .answer .number ≡ m
+  -- what was tested where the answer comes after the tests of the rim
+  tested : (m : ℕ) → (m ≡ 0) ⊎ ((6 ≤ m) × (m ≤ 10)) → fill band b state rows .answer .number ≡ m
       → Late band b state rows × (n ≤ rimOf band b) × (fill band b state rows ≡ cutTests band b state rows (labelIn band b))
-  after-rim m k e =
-      let number : Outcome → ℕ = λ o. o .answer .number in
-      let k' : (m ≡ 0) ⊎ ((5 ≤ m) × (m ≤ 10)) = elim k [ inl z ↦ inl z | inr (u, v) ↦ inr (omega arith, v) ] in
-      let w = late band b state rows _ m k' (ap number (sym (fill-is band b state rows)) ∙ e) in
-      let is = fill-is band b state rows ∙ w .is _ in
-      let five = not-five band b state rows (labelIn band b) m (λ f. elim k [ inl z ↦ omega arith | inr (u, v) ↦ omega arith ])
-      (sym (ap number is) ∙ e) in
-      (w, five .0, is ∙ five .1)
+  tested m k e =
+      let is = fill-is band b state rows in
+      let (w, rim, cuts) = after-rim band b state rows (labelIn band b) m k (ap (λ (o : Outcome). o .answer .number) (sym is) ∙ e) in
+      (w, rim, is ∙ cuts)
 
   pub passed-all : (m : ℕ) → (m ≡ 0) ⊎ (m ≡ 10) → fill band b state rows .answer .number ≡ m → Passed
   passed-all m k e =
       let l = labelIn band b in
-      let (w, rim, is) = after-rim m (elim k [ inl z ↦ inl z | inr z ↦ inr (omega arith, omega arith) ]) e in
+      let (w, rim, is) = tested m (elim k [ inl z ↦ inl z | inr z ↦ inr (omega arith, omega arith) ]) e in
       let clear = cut-passed band b state rows l m k (sym (ap (λ (o : Outcome). o .answer .number) is) ∙ e) in
       record {
         accepted = record {
@@ -75,7 +71,7 @@ module _ (band : ℕ) (b : Block) (state rows : List ℕ) where
   pub faulted : (m : ℕ) → (m ≡ 6) ⊎ (m ≡ 7) → fill band b state rows .answer .number ≡ m
       → (band ≤ bandMost) × Tabled b × ((o : ℕ) × (o < 7 * points (b .sizes)) × (faultIn band b o ≡ m))
   faulted m k e =
-      let (w, rim, is) = after-rim m (inr (elim k [ inl z ↦ (omega arith, omega arith) | inr z ↦ (omega arith, omega arith) ])) e in
+      let (w, rim, is) = tested m (inr (elim k [ inl z ↦ (omega arith, omega arith) | inr z ↦ (omega arith, omega arith) ])) e in
       let named = byte-named band b state rows (labelIn band b) m k (sym (ap (λ (o : Outcome). o .answer .number) is) ∙ e) in
       (w .banded, w .tabled, (cutOf band b, named .0, named .1))
 

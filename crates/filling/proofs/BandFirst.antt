@@ -36,7 +36,7 @@ use Rattle.filling.proofs.Raw.{fillRaw, raw, byte, before, label, now, 
 use Rattle.filling.proofs.Raw.{rim-out, rim-stays, no-gap, now-stray, fault-or}
 use Rattle.filling.proofs.Tests.{rimBy, cutBy, faulty, faulty-so, fine-so, so-faulty, so-fine}
 use Rattle.filling.proofs.Tests.{cutTests, rimTests, lengthTests, fill-is, early, late}
-use Rattle.filling.proofs.Tests.{rim-none, rim-at, not-five, cut-none, cut-at, byte-named, cut-passed}
+use Rattle.filling.proofs.Tests.{rim-none, rim-at, after-rim, cut-none, cut-at, byte-named, cut-passed}
 
 pub raw-0 : (b : Block) (state rows : List ℕ) → fill 0 b state rows ≡ fillRaw 0 b state rows
 unfolding fill fillRaw
@@ -107,25 +107,19 @@ module _ (band : ℕ) (b : Block) (state rows : List ℕ) where
   pub never-six : fill band b state rows .answer .number ≡ 6 → EdgeInBand band b (fill band b state rows .answer .place) → ⊥
   never-six e w =
       let number : Outcome → ℕ = λ o. o .answer .number in
-      let is = is-now ∙ late band b state rows _ 6 (inr (omega arith, omega arith)) (ap number (sym is-now) ∙ e) .is _ in
-      let five = not-five band b state rows (label band b) 6 (λ z. omega arith) (sym (ap number is) ∙ e) in
-      let named = byte-named band b state rows (label band b) 6 (inl refl) (sym (ap number (is ∙ five .1)) ∙ e) in
-      no-six (cutBy b (label band b))
-      (subst (EdgeInBand band b) (ap (λ (o : Outcome). o .answer .place) (is ∙ five .1) ∙ named .2) w) (named .1)
+      let rim = after-rim band b state rows (label band b) 6 (inr (omega arith, omega arith)) (ap number (sym is-now) ∙ e) in
+      let is = is-now ∙ rim .2 in
+      let named = byte-named band b state rows (label band b) 6 (inl refl) (sym (ap number is) ∙ e) in
+      no-six (cutBy b (label band b)) (subst (EdgeInBand band b) (ap (λ (o : Outcome). o .answer .place) is ∙ named .2) w) (named .1)
 
   -- an answer that came after the tests of the rim: no rim point was above zero, and none is plus now
-  after-rim : (m : ℕ) → (m ≡ 0) ⊎ ((6 ≤ m) × (m ≤ 10)) → fillRaw band b state rows .answer .number ≡ m
+  both-after : (m : ℕ) → (m ≡ 0) ⊎ ((6 ≤ m) × (m ≤ 10)) → fillRaw band b state rows .answer .number ≡ m
       → (fillRaw band b state rows ≡ laterRaw) × (fill band b state rows ≡ laterTests)
-  after-rim m k e =
-      let number : Outcome → ℕ = λ o. o .answer .number in
-      let k' : (m ≡ 0) ⊎ ((5 ≤ m) × (m ≤ 10)) = elim k [ inl z ↦ inl z | inr (u, v) ↦ inr (omega arith, v) ] in
-      let pass = late band b state rows _ m k' (ap number (sym raw-is) ∙ e) .is in
-      let was = raw-is ∙ pass _ in
-      let five = not-five band b state rows (raw b) m (λ f. elim k [ inl z ↦ omega arith | inr (u, v) ↦ omega arith ])
-      (sym (ap number was) ∙ e) in
+  both-after m k e =
+      let (w, rim, cuts) = after-rim band b state rows (raw b) m k (ap (λ (o : Outcome). o .answer .number) (sym raw-is) ∙ e) in
       let none : (p : ℕ) → p < n → rimFault (b .sizes) (label band b) p ≡ false
-      = λ p l. rim-fine p (lowest-fails (rimFault (b .sizes) (raw b)) n p (omega (arith, five .0))) in
-      (was ∙ five .1, is-now ∙ pass _ ∙ rim-none band b state rows (label band b) none)
+      = λ p l. rim-fine p (lowest-fails (rimFault (b .sizes) (raw b)) n p (omega arith)) in
+      (raw-is ∙ cuts, is-now ∙ w .is _ ∙ rim-none band b state rows (label band b) none)
 
   -- a 6 is of a zero byte
   gap-zero : (o : ℕ) → before b o ≡ 6 → byte b o ≡ 0
@@ -143,7 +137,7 @@ module _ (band : ℕ) (b : Block) (state rows : List ℕ) where
   pub six-goes-on : fillRaw band b state rows .answer .number ≡ 6 → EdgeInBand band b (fillRaw band b state rows .answer .place)
       → (now band b (fillRaw band b state rows .answer .place) ≡ 0) × (fill band b state rows ≡ laterTests)
   six-goes-on e w =
-      let rim = after-rim 6 (inr (omega arith, omega arith)) e in
+      let rim = both-after 6 (inr (omega arith, omega arith)) e in
       let named = byte-named band b state rows (raw b) 6 (inl refl) (sym (ap (λ (o : Outcome). o .answer .number) (rim .0)) ∙ e) in
       let place = ap (λ (o : Outcome). o .answer .place) (rim .0) ∙ named .2 in
       let fine = no-gap band b (cutBy b (raw b)) (subst (EdgeInBand band b) place w) (gap-zero (cutBy b (raw b)) (named .1)) in
@@ -154,7 +148,7 @@ module _ (band : ℕ) (b : Block) (state rows : List ℕ) where
       → ((j : ℕ) → j < o → EdgeInBand band b j → byte b j ≡ 0)
       → fill band b state rows ≡ refused state rows 7 o
   now-seven m k e o u w z first =
-      let rim = after-rim m (elim k [ inl i ↦ inl i | inr i ↦ inr (omega arith, omega arith) ]) e in
+      let rim = both-after m (elim k [ inl i ↦ inl i | inr i ↦ inr (omega arith, omega arith) ]) e in
       let none = cut-passed band b state rows (raw b) m k (sym (ap (λ (o : Outcome). o .answer .number) (rim .0)) ∙ e) in
       let stray = now-stray band b o w z in
       let lowest = lowest-is (faulty b (label band b)) (7 * n) o u (so-faulty b (label band b) o (λ y. omega arith))

@@ -2,7 +2,7 @@
 --     cutTests, rimTests, lengthTests   the tests of the cut bytes, of the rim, and of sizes, band and lengths
 --     fill-is                           filling is these tests by labels
 --     Early, Late, early, late          the last refuse, whatever comes after them, or let it pass
---     rim-none, rim-at, not-five        the rim
+--     rim-none, rim-at, not-five, after-rim   the rim
 --     cut-none, cut-at, byte-named, cut-passed   the cut bytes
 --     fault-le, written-ends            which numbers they give, and which the filling
 use Prim.Native.Nat.{ℕ, _*_, _/_, _%_, _≤_, _<_}
@@ -189,6 +189,16 @@ module _ (band : ℕ) (b : Block) (state rows : List ℕ) where
     where
       outcome : Bool → Outcome
       outcome t = if t then refused state rows 5 (rimBy b l) else cutTests l
+
+  -- an answer that comes after the tests of the rim
+  pub after-rim : (l : ℕ → Label) (m : ℕ) → (m ≡ 0) ⊎ ((6 ≤ m) × (m ≤ 10)) → lengthTests (rimTests l) .answer .number ≡ m
+      → Late × (n ≤ rimBy b l) × (lengthTests (rimTests l) ≡ cutTests l)
+  after-rim l m k e =
+      let k' : (m ≡ 0) ⊎ ((5 ≤ m) × (m ≤ 10)) = elim k [ inl z ↦ inl z | inr (u, v) ↦ inr (omega arith, v) ] in
+      let w = late (rimTests l) m k' e in
+      let five = not-five l m (λ f. elim k [ inl z ↦ omega arith | inr (u, v) ↦ omega arith ])
+      (sym (ap (λ (o : Outcome). o .answer .number) (w .is (rimTests l))) ∙ e) in
+      (w, five .0, w .is (rimTests l) ∙ five .1)
 
   pub cut-at : (l : ℕ → Label) (o : ℕ) → cutBy b l ≡ o → o < 7 * n → cutTests l ≡ refused state rows (cutFault (b .sizes) l (b .cuts) o) o
   cut-at l o e u = rw (e, lt-ltb o (7 * n) u) refl

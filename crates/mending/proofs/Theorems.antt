@@ -128,8 +128,14 @@ module _ (band : ℕ) (b : Block) where
       none h n k = count-none _ bytes (λ o l. ne-eqb _ _ (λ e. k (sym e ∙ fine h o l)))
 
       stays : (h : Taken band b) → mended label after .cuts ≡ mend band b .cuts
-      stays h = read-all (mendedByte label after) (mend band b .cuts) bytes 0 (long h) (λ o l. fine-stays label after o (fine h o (omega (arith, long h))))
+      stays h =
+          let stays-at : (o : ℕ) → o < length (mend band b .cuts) → mendedByte label after o ≡ getD (mend band b .cuts) o 0
+          = λ o l. fine-stays label after o (fine h o (omega (arith, long h))) in
+          read-all (mendedByte label after) (mend band b .cuts) bytes 0 (long h) stays-at
 
       go : ((n : ℕ) × Refuses band b n) ⊎ Taken band b → Again (mend band b) (mend band after)
       go (inl (n, r)) = rw (refused-again r, refused-is r) refl
-      go (inr h) = rw (taken-mends band after (after-taken h), none h 6 (λ e. omega arith), none h 7 (λ e. omega arith), stays h, taken-mends band b h) refl
+      go (inr h) =
+          let no-gap = none h 6 (λ e. omega arith) in
+          let no-stray = none h 7 (λ e. omega arith) in
+          rw (taken-mends band after (after-taken h), no-gap, no-stray, stays h, taken-mends band b h) refl

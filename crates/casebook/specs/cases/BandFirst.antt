@@ -13,6 +13,7 @@ use Rattle.mending.specs.Mend.{Outcome}
 use Rattle.casebook.specs.cases.Lent.{State, as-lent, codes}
 use Rattle.casebook.specs.cases.Given.{givenSizes, givenCuts, allEntered, Sample, _is_, allSampled}
 use Rattle.casebook.specs.cases.Cases.{Case, banded, filled, too-short, refused}
+use Rattle.casebook.specs.cases.Mends.{outcomeOf}
 
 -- the given case with samples of 9 and -9 where it has 5 and -5, so that a band of 5 takes in only what is changed: some samples, some bytes.
 -- Point 13 is rubber; byte 91 is of the edge from it to 14, and byte 192 of the edge from the rim point 27 to it
@@ -35,9 +36,8 @@ pub record Remending : Type 0 where
   pub old : Outcome
   pub new : Outcome
 
--- so many bytes filled in, so many cleared, and this table
 abbrev mended : ℕ → ℕ → List ℕ → Outcome
-mended f c cuts = record { answer = record { number = 0; filled = f; cleared = c }; cuts = cuts }
+mended = outcomeOf 0
 
 unfoldable pub kinds : List Turn
 kinds =

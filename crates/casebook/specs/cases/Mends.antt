@@ -17,10 +17,13 @@ pub record Mending : Type 0 where
   pub block : Block
   pub outcome : Outcome
 
-abbrev answers : ℕ → ℕ → Block → ℕ → ℕ → List ℕ → Mending
-answers n band b f c cuts = record { band = band; block = b; outcome = record { answer = record { number = n; filled = f; cleared = c }; cuts = cuts } }
+-- a number, so many bytes filled in, so many cleared, and this table
+abbrev pub outcomeOf : ℕ → ℕ → ℕ → List ℕ → Outcome
+outcomeOf n f c cuts = record { answer = record { number = n; filled = f; cleared = c }; cuts = cuts }
 
--- so many bytes filled in, so many cleared, and this table
+abbrev answers : ℕ → ℕ → Block → ℕ → ℕ → List ℕ → Mending
+answers n band b f c cuts = record { band = band; block = b; outcome = outcomeOf n f c cuts }
+
 abbrev mends : Block → ℕ → ℕ → List ℕ → Mending
 mends = answers 0 0
 
