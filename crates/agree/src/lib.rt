@@ -1,1 +1,2 @@
 // The calls agree: theorems only.
+#![tactic(auto)]

@@ -51,6 +51,7 @@ module _ {A : Type 0} (F : Finite A) where
 -- the numbers below a bound
 from_bounds : {k : ℕ} (a n : ℕ) → Member k (from a n) → (a ≤ k) × (k < a + n)
 unfolding from
+from_bounds {k = k} a zero x' = elim x' [ ]
 from_bounds a (suc n) here = (omega arith, omega arith)
 from_bounds a (suc n) (there m) = let b = from_bounds (suc a) n m in (omega arith, omega arith)
 
@@ -110,6 +111,7 @@ two_parts f a (suc n) =
 module _ {A B : Type 0} (f : A → List B) where
   pub gather_i : {x : A} {y : B} {l : List A} → Member x l → Member y (f x) → Member y (gather f l)
   unfolding gather
+  gather_i {y = y} {l = []} x6 q = elim x6 [ ]
   gather_i {l = x ∷ l} here q = append_l (gather f l) q
   gather_i {l = x ∷ l} (there p) q = append_r (f x) (gather_i p q)
 
@@ -119,6 +121,7 @@ module _ {A B : Type 0} (f : A → List B) where
   -- the part in which something stands
   pub gather_part : {y : B} (l : List A) → Member y (gather f l) → (x : A) × Member x l × Member y (f x)
   unfolding gather
+  gather_part {y = y} [] m = elim m [ ]
   gather_part (x ∷ l) m = elim (append_cases (f x) m) [ inl q ↦ (x, here, q) | inr q ↦ later (gather_part l q) ]
 
   -- nothing stands twice if not in the list of parts, not in a part and not in two parts
@@ -180,8 +183,13 @@ module _ {A B : Type 0} (f : A → List B) where
       let i : j ≡ k = omega arith in
       found_same p (subst (λ (i : ℕ). Found y s l i) i q)
 
+  found_at_once : {x y : A} {r s : ℕ} {l : List A} {k j : ℕ} → NoRepeats l → x ≡ y → r ≡ s → Found x r l k → Found y s l j → k ≡ j
+  found_at_once o p q (first h e) (first g d) = omega (arith, q)
+  found_at_once (more n o) p q (first h e) (after {l = l} v d) =
+      absurd (n (subst (λ (a : A). Member a l) (sym p) (found_member v)))
+  found_at_once (more n o) p q (after {l = l} v e) (first g d) =
+      absurd (n (subst (λ (a : A). Member a l) p (found_member v)))
+  found_at_once (more n o) p q (after v e) (after w d) = let i = found_at_once o p q v w in omega arith
+
   pub found_once : {x : A} {r : ℕ} {l : List A} {k j : ℕ} → NoRepeats l → Found x r l k → Found x r l j → k ≡ j
-  found_once (more n o) (first h e) (first g d) = omega arith
-  found_once (more n o) (first h e) (after q d) = absurd (n (found_member q))
-  found_once (more n o) (after p e) (first g d) = absurd (n (found_member p))
-  found_once (more n o) (after p e) (after q d) = let i = found_once o p q in omega arith
+  found_once o p q = found_at_once o refl refl p q

@@ -104,6 +104,7 @@ module _ {A : Type 0} where
   every f (x ∷ xs) = f x & every f xs
 
   pub every_use : (f : A → Bool) (l : List A) → T (every f l) → {a : A} → Member a l → T (f a)
+  every_use f [] t {a = a} x'' = elim x'' [ ]
   every_use f (x ∷ xs) t here = and_l (f x) (every f xs) t
   every_use f (x ∷ xs) t (there m) = every_use f xs (and_r (f x) (every f xs) t) m
 

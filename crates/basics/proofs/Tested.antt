@@ -18,6 +18,7 @@ pub tested : {A : Type 0} {F : Finite A} {f : A → Bool} → Tested F f → (a 
 tested {F = F} {f = f} t a = each_use F f t.passed a
 
 pub any_i : {A : Type 0} (f : A → Bool) {a : A} {l : List A} → Member a l → T (f a) → T (any f l)
+any_i {A = A} f {a = a} {l = []} x5 t = elim x5 [ ]
 any_i f {l = x ∷ xs} here t = or_l (f x) (any f xs) t
 any_i f {l = x ∷ xs} (there m) t = or_r (f x) (any f xs) (any_i f m t)
 
@@ -52,6 +53,7 @@ module _ {A : Type 0} (f : A → Bool) where
 
   pub kept : {a : A} (l : List A) → Member a (keep l) → Member a l × T (f a)
   unfolding keep
+  kept {a = a} [] m = elim m [ ]
   kept (x ∷ xs) m = kept_step xs (kept xs) (f x) refl m
 
 -- the two truth values
@@ -82,6 +84,7 @@ module _ {A B : Type 0} where
   pairs (x ∷ l) m = map (λ y. (x, y)) m ++ pairs l m
 
   pub pairs_member : {a : A} {b : B} {l : List A} {m : List B} → Member a l → Member b m → Member (a, b) (pairs l m)
+  pairs_member {a = a} {b = b} {l = []} {m = m} x5 q = elim x5 [ ]
   pairs_member {a = a} {l = x ∷ xs} {m = m} here q = append_l (pairs xs m) (map_member (λ (y : B). (a, y)) q)
   pairs_member {l = x ∷ xs} {m = m} (there p) q = append_r (map (λ (y : B). (x, y)) m) (pairs_member p q)
 

@@ -1,1 +1,2 @@
 // Definitions and laws that are not about meshes; no code.
+#![tactic(auto)]

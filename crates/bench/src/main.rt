@@ -1,5 +1,7 @@
 // The bench program: reads one block file from standard input, fills its block and prints the
 // counts, or why it is refused.
+#![tactic(auto)]
+
 use libc::{STDIN_FILENO, STDOUT_FILENO};
 
 // The longest file of 5 by 5 by 5 cubes has 1194 runs of one byte, 3 + 682 + 2 + 7 * 1194 = 9045

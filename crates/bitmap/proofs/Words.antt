@@ -1,6 +1,6 @@
 -- Laws of the bits of one word.
 --     bit_zero                      no bit of 0 is set
---     bit_or                        a bit of an `or` is set if it is set in either word
+--     bit_or_law                    a bit of an `or` is set if it is set in either word
 --     bit_power                     the one bit of a power of two
 --     shift_fits, shift_positive    a bit shifted to a place in a word of 64
 --     bit_set                       the bit j set beside those of a word, as the code computes it
@@ -40,9 +40,9 @@ either (suc zero) (suc (suc e)) h l = absurd (omega arith)
 digit_lt : (n : ℕ) → n % 2 < 2
 digit_lt n = mod-lt n (zero-lt-suc 1)
 
-pub bit_or : (a b i : ℕ) → bit (bit_or a b) i ≡ (bit a i || bit b i)
+pub bit_or_law : (a b i : ℕ) → bit (bit_or a b) i ≡ (bit a i || bit b i)
 unfolding bit
-bit_or a b i =
+bit_or_law a b i =
     ap (λ (x : ℕ). eqb (x % 2) 1) (or_shr a b i)
     ∙ ap (λ (x : ℕ). eqb x 1) (or_mod (a / 2 ^ i) (b / 2 ^ i) 1)
     ∙ either (a / 2 ^ i % 2) (b / 2 ^ i % 2) (digit_lt (a / 2 ^ i)) (digit_lt (b / 2 ^ i))
@@ -75,7 +75,7 @@ shift_positive j h = omega (arith, shift_fits j h, pow_pos j)
 pub bit_set : (w j i : ℕ) → j < 64 → bit (bit_or w ((1 * 2 ^ j) % 2 ^ 64)) i ≡ (bit w i || eqb j i)
 bit_set w j i h =
     ap (λ (x : ℕ). bit (bit_or w x) i) (shift_fits j h)
-    ∙ bit_or w (1 * 2 ^ j) i
+    ∙ bit_or_law w (1 * 2 ^ j) i
     ∙ ap (λ (b : Bool). bit w i || b) (bit_power j i)
 
 -- the count of one digit

@@ -1,4 +1,6 @@
 // A table of bits in words of 64: set one, ask one, count those before one.
+#![tactic(auto)]
+
 ghost use Rattle.std.specs.Prelude.{◌≡◌, ◌+◌, ◌*◌, ◌<◌, ◌^◌, length};
 ghost use Rattle.basics.specs.Lists.{count};
 ghost use Rattle.bitmap.specs.inner.Bits.{bit, marked, Adds, Clears, Ranks};

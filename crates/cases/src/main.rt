@@ -1,6 +1,8 @@
 // Reads recorded calls from standard input and makes each of them again: document 01's row tables of
 // 95 and of 96 numbers first, then blocks, places and files that separate software answered too. It
 // ends at the first difference and says in which record it is, counted from 1.
+#![tactic(auto)]
+
 ghost use Rattle.std.specs.Prelude.{◌+◌, ◌<◌, ◌≤◌};
 
 use blockfile::numbers;

@@ -1,3 +1,5 @@
 // Tables and answers compared with what a record states, entry by entry.
+#![tactic(auto)]
+
 pub mod answers;
 pub mod tables;

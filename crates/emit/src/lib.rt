@@ -1,4 +1,6 @@
 // The rows of a block, counted and written: the walk over all its lattice tetrahedra.
+#![tactic(auto)]
+
 pub mod bare;
 pub mod cubes;
 pub mod passes;
@@ -7,7 +9,7 @@ use lattice::Sizes;
 
 // The six points that the tetrahedra between a cube and the next one along an axis have: the lower
 // and the higher centre, and the shared face's corners in their turn, (-,-), (+,-), (+,+), (-,+).
-#[derive(Drop)]
+#[derive(Clone, Copy)]
 pub struct Cube {
     pub axis: usize,
     pub low: usize,
@@ -19,7 +21,7 @@ pub struct Cube {
 }
 
 // The weights of their labels.
-#[derive(Drop)]
+#[derive(Clone, Copy)]
 pub struct CubeWeights {
     pub low: usize,
     pub high: usize,
@@ -31,7 +33,7 @@ pub struct CubeWeights {
 
 // All cubes with a next one along an axis: the block's sizes and points, the six points counted
 // from a cube's lowest corner and its centre, and how many such cubes there are along x, y and z.
-#[derive(Drop)]
+#[derive(Clone, Copy)]
 pub struct Pass {
     pub sizes: Sizes,
     pub n: usize,

@@ -1,1 +1,2 @@
 // That the faces of all rows fit; no code.
+#![tactic(auto)]

@@ -1,4 +1,6 @@
 // One block file, from its bytes to what the bench program prints.
+#![tactic(auto)]
+
 pub mod lines;
 
 ghost use Rattle.std.specs.Prelude.{◌≡◌, ◌*◌, ◌≤◌, min, length, take};
@@ -11,7 +13,7 @@ ghost use Rattle.io.specs.Counts.{IsPrefixLen};
 use blockfile::Read;
 
 // 0 with the four counts, or a refusal's number and place with zeros.
-#[derive(Drop)]
+#[derive(Clone, Copy)]
 pub struct Summary {
     pub number: u32,
     pub place: u64,

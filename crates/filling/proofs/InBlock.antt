@@ -25,7 +25,8 @@ use Rattle.moving.proofs.Bytes.{move_code}
 use Rattle.geometry.specs.Place.{rest, cut_place, moved_place, point_place, place_of}
 use Rattle.geometry.proofs.InBlock.{cube_steps, Steps, rest_in, cut_in, moved_in}
 use Rattle.filling.specs.declared.Placed.{Placed}
-use Rattle.filling.specs.Located.{placed, unplaced, believable, stands_to, stands, id_fault, locate, locate_order}
+use Rattle.filling.specs.inner.Orders.{locate_order}
+use Rattle.filling.specs.Located.{placed, unplaced, believable, stands_to, stands, id_fault, locate}
 use Rattle.filling.proofs.Refusing.{whichever}
 
 -- no coordinate of any block is further from 0: 512 steps for each of 64 cubes

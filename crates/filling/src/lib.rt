@@ -1,8 +1,9 @@
 // What the calls answer.
+#![tactic(auto)]
 
 // The answer of filling: a number of the papers, the rows written, the points moved, a place.
 #[repr(C)]
-#[derive(Drop)]
+#[derive(Clone, Copy)]
 pub struct Filled {
     pub number: u32,
     pub rows: u64,
@@ -12,7 +13,7 @@ pub struct Filled {
 
 // The answer of the place call.
 #[repr(C)]
-#[derive(Drop)]
+#[derive(Clone, Copy)]
 pub struct Placed {
     pub number: u32,
     pub x: u32,

@@ -1,1 +1,2 @@
 // Places of points and cuts, and the six-volume of a tetrahedron.
+#![tactic(auto)]

@@ -1,11 +1,13 @@
 // The lattice of a block: its points and their numbers, edges, the rim.
+#![tactic(auto)]
+
 pub mod counts;
 pub mod edges;
 pub mod numbers;
 pub mod rim;
 
 // The sizes of a block, in cubes.
-#[derive(Drop)]
+#[derive(Clone, Copy)]
 pub struct Sizes {
     pub nx: usize,
     pub ny: usize,
@@ -13,7 +15,7 @@ pub struct Sizes {
 }
 
 // A lattice point is a cube corner or a cube centre.
-#[derive(Drop)]
+#[derive(Clone, Copy)]
 pub enum Kind {
     Corner,
     Centre,
@@ -21,7 +23,7 @@ pub enum Kind {
 
 // A decoded lattice point: its kind, its three indices, its own number, and the number that its
 // indices have in the other kind. Every neighbour is a few strides from one of the two numbers.
-#[derive(Drop)]
+#[derive(Clone, Copy)]
 pub struct Site {
     pub kind: Kind,
     pub x: usize,
@@ -32,14 +34,14 @@ pub struct Site {
 }
 
 // The far end of an edge, if the edge exists.
-#[derive(Drop)]
+#[derive(Clone, Copy)]
 pub enum Near {
     At(usize),
     Nothing,
 }
 
 // How far a code leads up and down along each axis, in doubled coordinates.
-#[derive(Drop)]
+#[derive(Clone, Copy)]
 pub struct Shift {
     pub ux: usize,
     pub uy: usize,

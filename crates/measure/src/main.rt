@@ -1,4 +1,6 @@
 // Reads the three size bytes with which a block file starts, and prints the block's measures.
+#![tactic(auto)]
+
 use libc::{STDIN_FILENO, STDOUT_FILENO};
 
 fn wide(b: u8) -> u32 {

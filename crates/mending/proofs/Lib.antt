@@ -4,3 +4,4 @@ pub mod Sizes
 pub mod Bytes
 pub mod Tested
 pub mod Theorems
+pub mod Listed

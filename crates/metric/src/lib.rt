@@ -1,8 +1,9 @@
 // What the place call in millimetres answers (document 02, F-1).
+#![tactic(auto)]
 
 // A point in millimetres.
 #[repr(C)]
-#[derive(Drop)]
+#[derive(Clone, Copy)]
 pub struct Metric {
     pub x: f64,
     pub y: f64,
@@ -11,7 +12,7 @@ pub struct Metric {
 
 // The answer: a number of the papers, and the point, three zeros with a refusal.
 #[repr(C)]
-#[derive(Drop)]
+#[derive(Clone, Copy)]
 pub struct PlacedMm {
     pub number: u32,
     pub point: Metric,

@@ -1,7 +1,8 @@
 // Labels of lattice points, violations, and which points move.
+#![tactic(auto)]
 
 // A point's label: the sign of its sample, or zero in the band and once it has moved.
-#[derive(Drop)]
+#[derive(Clone, Copy)]
 pub enum Label {
     Minus,
     Zero,
@@ -9,7 +10,7 @@ pub enum Label {
 }
 
 // Whether a cut violates an end of its edge: no, or the square of its distance from that end.
-#[derive(Drop)]
+#[derive(Clone, Copy)]
 pub enum Violation {
     No,
     Distance(usize),

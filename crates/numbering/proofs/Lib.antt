@@ -9,3 +9,4 @@ pub mod Told
 pub mod After
 pub mod Refusals
 pub mod Theorems
+pub mod Listed

@@ -1,3 +1,5 @@
 // Places of lattice points, of cuts and of moved points; the place call.
+#![tactic(auto)]
+
 pub mod locate;
 pub mod points;

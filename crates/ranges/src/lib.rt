@@ -1,5 +1,7 @@
 // Whole ranges of a table, tested at once: no test ends early, so that the compiler takes many
 // entries in one step. A range may go past the table's end: what is not there counts as zero.
+#![tactic(auto)]
+
 mod joint;
 
 ghost use Rattle.std.specs.Prelude.{◌≡◌, true, false, ℕ, ◌<◌, ◌≤◌, pos, length, get_or};

@@ -1,4 +1,6 @@
 // Recorded calls: what separate software answered, held against what the calls answer.
+#![tactic(auto)]
+
 ghost use Rattle.std.specs.Prelude.{◌≡◌};
 
 pub mod files;
@@ -7,7 +9,7 @@ mod heads;
 pub mod questions;
 
 // How many entries the tables of a recorded call of filling have, and how many ids it wrote.
-#[derive(Drop)]
+#[derive(Clone, Copy)]
 pub struct Lengths {
     pub samples: usize,
     pub cuts: usize,
@@ -18,7 +20,7 @@ pub struct Lengths {
 
 // How many entries the tables of recorded calls of the place of an id have, how many questions there
 // are, and the number answered to all of them.
-#[derive(Drop)]
+#[derive(Clone, Copy)]
 pub struct Asked {
     pub cuts: usize,
     pub state: usize,
@@ -28,7 +30,7 @@ pub struct Asked {
 
 // How many bytes a recorded file has, the lengths of the tables lent to its reader, and the largest
 // size that it takes.
-#[derive(Drop)]
+#[derive(Clone, Copy)]
 pub struct Filed {
     pub file: usize,
     pub samples: usize,

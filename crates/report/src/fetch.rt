@@ -8,7 +8,7 @@ use libc::STDIN_FILENO;
 
 // What was fetched: how many bytes are held, and whether the input ended before all that was needed
 // came, which the contract says and the program need not ask.
-#[derive(Drop)]
+#[derive(Clone, Copy)]
 pub struct Fetched {
     pub held: usize,
     pub ended: bool,

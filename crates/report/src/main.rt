@@ -1,5 +1,7 @@
 // The week's report of volumes: block files one after another from standard input, a line for each,
 // and the totals.
+#![tactic(auto)]
+
 mod fetch;
 
 ghost use Rattle.std.specs.Prelude.{◌≡◌, ◌<◌};

@@ -1,18 +1,20 @@
 // The rows of one lattice tetrahedron: which corners they have, by document 01's table, and their ids.
+#![tactic(auto)]
+
 pub mod corners;
 pub mod picks;
 pub mod stencils;
 pub mod writing;
 
 // A corner in a row: a lattice point, or the cut of the edge from a point in a direction.
-#[derive(Drop)]
+#[derive(Clone, Copy)]
 pub enum Corner {
     Point(usize),
     Edge(usize, usize),
 }
 
 // The four corners of a row.
-#[derive(Drop)]
+#[derive(Clone, Copy)]
 pub struct Row {
     pub a: Corner,
     pub b: Corner,
@@ -21,7 +23,7 @@ pub struct Row {
 }
 
 // The rows of a tetrahedron.
-#[derive(Drop)]
+#[derive(Clone, Copy)]
 pub enum Rows {
     None,
     One(Row),
@@ -30,7 +32,7 @@ pub enum Rows {
 }
 
 // A lattice tetrahedron: its axis, its edge in the turn, and the numbers of its corners, ascending.
-#[derive(Drop)]
+#[derive(Clone, Copy)]
 pub struct Tetra {
     pub axis: usize,
     pub edge: usize,
@@ -41,7 +43,7 @@ pub struct Tetra {
 }
 
 // The weights of its four corners' labels.
-#[derive(Drop)]
+#[derive(Clone, Copy)]
 pub struct Weights {
     pub a: usize,
     pub b: usize,
@@ -50,7 +52,7 @@ pub struct Weights {
 }
 
 // The four corners in an order, each by its place among the ascending ones.
-#[derive(Drop)]
+#[derive(Clone, Copy)]
 pub struct Order {
     pub first: usize,
     pub second: usize,

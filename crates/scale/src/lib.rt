@@ -1,5 +1,7 @@
 // An answer of the place call in millimetres: the unit is tested, and each coordinate becomes a
 // float and is multiplied once.
+#![tactic(auto)]
+
 ghost use Rattle.std.specs.Prelude.{◌≡◌};
 ghost use Rattle.metric.specs.Millimetres.{unit_fits, scaled, metric, unplaced_mm, in_millimetres};
 

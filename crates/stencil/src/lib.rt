@@ -1,1 +1,2 @@
 // The rows that a pattern of four labels gives.
+#![tactic(auto)]

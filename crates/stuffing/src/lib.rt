@@ -1,2 +1,4 @@
 // Isosurface stuffing of a block: the checks in the papers' order, then points moved and rows written.
+#![tactic(auto)]
+
 pub mod steps;

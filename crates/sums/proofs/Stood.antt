@@ -12,7 +12,8 @@ use Rattle.lattice.specs.declared.Sizes.{Sizes}
 use Rattle.lattice.specs.Axis.{Axis, along_x, along_y, along_z}
 use Rattle.geometry.specs.Place.{place_of}
 use Rattle.filling.specs.declared.Placed.{Placed}
-use Rattle.filling.specs.Located.{placed, unplaced, id_fault, locate_order, locate}
+use Rattle.filling.specs.inner.Orders.{locate_order}
+use Rattle.filling.specs.Located.{placed, unplaced, id_fault, locate}
 use Rattle.filling.proofs.Refusing.{Each, goes}
 use Rattle.filling.proofs.InBlock.{coordinate, place_in, located_small}
 use Rattle.triple.specs.declared.Place.{Place}

@@ -1,4 +1,6 @@
 // The six-volumes of the rows of a filled block: their sum, and the smallest.
+#![tactic(auto)]
+
 ghost use Rattle.std.specs.Prelude.{◌≡◌, ◌*◌, ◌<◌, ◌≤◌, pos, ltb, eqb};
 ghost use Rattle.basics.specs.Choice.{if◌then◌else◌};
 ghost use Rattle.geometry.specs.Place.{place_of};
@@ -12,7 +14,7 @@ ghost use Rattle.sums.specs.inner.Measured.{Standing, Measured};
 use lattice::Sizes;
 use triple::{Place, volume};
 
-#[derive(Drop)]
+#[derive(Clone, Copy)]
 pub struct Sums {
     pub sum: u64,
     pub smallest: u64,

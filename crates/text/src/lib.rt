@@ -1,5 +1,7 @@
 // Lines of text, as bytes: words and decimal numbers, one after the other at the start of a lent
 // table. Every program writes its numbers by `put_number`.
+#![tactic(auto)]
+
 ghost use Rattle.std.specs.Prelude.{◌≡◌, [], ◌∷◌, ◌++◌, ◌+◌, ◌≤◌, length, take};
 ghost use Rattle.text.specs.Text.{decimal};
 

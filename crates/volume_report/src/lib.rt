@@ -1,4 +1,6 @@
 // The week's report of volumes, a file at a time: its numbers, its line, and the totals.
+#![tactic(auto)]
+
 pub mod files;
 pub mod lines;
 pub mod totals;
@@ -7,7 +9,7 @@ pub mod turns;
 // What a file's line says: 0 with T, M, the sum of the six-volumes and the smallest, or a refusal's
 // number and place with zeros; and where in the bytes the file ends, 0 where it is refused with 1, 11
 // or 12 and nobody knows.
-#[derive(Drop)]
+#[derive(Clone, Copy)]
 pub struct Entry {
     pub number: u32,
     pub place: u64,
@@ -19,7 +21,7 @@ pub struct Entry {
 }
 
 // How many files there were, and T and the sums of those that were accepted.
-#[derive(Drop)]
+#[derive(Clone, Copy)]
 pub struct Tally {
     pub files: u64,
     pub tetrahedra: u64,
@@ -27,7 +29,7 @@ pub struct Tally {
 }
 
 // What a turn leaves: the totals with its file, how long its line is, and whether the report ends.
-#[derive(Drop)]
+#[derive(Clone, Copy)]
 pub struct Turn {
     pub tally: Tally,
     pub written: usize,

@@ -1,1 +1,2 @@
 // The six-volumes of the rows of a filling; laws only.
+#![tactic(auto)]

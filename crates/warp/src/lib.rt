@@ -1,3 +1,5 @@
 // Moving lattice points to cuts that are too near.
+#![tactic(auto)]
+
 pub mod bytes;
 pub mod moves;

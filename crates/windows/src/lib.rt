@@ -1,5 +1,7 @@
 // The ids of a row table in windows: a window's ids in use are marked in a table of bits, and rewritten
 // as numbers. Parts of the row table that have no id in a window are left out.
+#![tactic(auto)]
+
 pub mod hit;
 pub mod looks;
 pub mod passes;

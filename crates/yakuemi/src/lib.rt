@@ -1,5 +1,7 @@
 // The public calls of Yakuemi. None of them has a `requires`: whatever is handed in is answered,
 // by a number of documents 01 and 02.
+#![tactic(auto)]
+
 mod fill;
 mod measures;
 mod mend;

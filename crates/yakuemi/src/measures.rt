@@ -6,7 +6,7 @@ use lattice::{Sizes, counts};
 
 // The answer of measures: 0 with both counts, or 1 with zeros where a size is outside 1 to 64.
 #[repr(C)]
-#[derive(Drop)]
+#[derive(Clone, Copy)]
 pub struct Measures {
     pub number: u32,
     pub points: u64,

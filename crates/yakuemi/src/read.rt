@@ -5,7 +5,7 @@ ghost use Rattle.yakuemi.specs.Reads.{read_file, answer_of};
 // The answer of reading: 0 with the sizes and where in the bytes the file ends, or a number of
 // document 01 with zeros. 12 says that a lent table is too short.
 #[repr(C)]
-#[derive(Drop)]
+#[derive(Clone, Copy)]
 pub struct ReadFile {
     pub number: u32,
     pub nx: u32,
