@@ -11,8 +11,7 @@ use Rattle.lattice.specs.Direction.{long, direction_of}
 use Rattle.moving.specs.declared.Violation.TheVariants.{No, Distance}
 use Rattle.moving.specs.Violation.{rule1, limit, measured, squared, violation}
 use borrow.Author.Rules.{rules}
-use Rattle.labelling.proofs.violation.violation.Statement.{statement}
-use Rattle.labelling.proofs.violation.violation.Tie as tie
+use Rattle.labelling.proofs.violation.violation.Goals as goal
 
 limit-lt : (d : ℕ) → limit rule1 d < 256
 unfolding limit
@@ -45,34 +44,19 @@ module _ (c t : ℕ) {far : ℕ} (h : (t ≡ 0 → far ≡ 256) × ((t ≡ 0 →
         | inr p ↦ simp (eq-eqb t 0 (omega arith))
       ]
 
-distance-requires : tie.Need-distance-requires
-distance-requires c κs = search rules
+pub squared-requires : goal.squared-requires
+squared-requires c =
+    let d = (c.args.code - 1) % 7 in
+    omega (arith, c.if-far-limit.true, c.limit.ensures, limit-lt d)
 
-sub-d : tie.Need-overflow-sub-d
-sub-d c = search rules
-
-limit-requires : tie.Need-limit-requires
-limit-requires c κs = search rules
-
-squared-requires : tie.Need-squared-requires
-squared-requires c κs =
-    let d = (c.before.before.before.args.code - 1) % 7 in
-    omega (arith, c.if1.true, c.before.limit.ensures, limit-lt d)
-
-returns : tie.Need-returns
+pub returns-then-far-limit : goal.returns-then-far-limit
 unfolding direction_of
-returns c =
-    let at-distance = c.before.before.before in
-    let a = at-distance.before.args in
-    within a.code a.t at-distance.distance.ensures refl c.before.before.limit.ensures c.before.if1.true c.squared.ensures
+returns-then-far-limit c =
+    let a = c.args in
+    within a.code a.t c.distance-far.ensures refl c.limit.ensures c.if-far-limit.true c.squared.ensures
 
-returns-2 : tie.Need-returns-2
+pub returns-else-far-limit : goal.returns-else-far-limit
 unfolding direction_of
-returns-2 c =
-    let at-distance = c.before.before in
-    let a = at-distance.before.args in
-    beyond a.code a.t at-distance.distance.ensures refl c.before.limit.ensures c.if1.false
-
-pub violation-spec : {M : Type 1} → statement M
-violation-spec =
-    tie.close (tie.spec distance-requires sub-d limit-requires squared-requires returns returns-2)
+returns-else-far-limit c =
+    let a = c.args in
+    beyond a.code a.t c.distance-far.ensures refl c.limit.ensures c.if-far-limit.false
