@@ -1,0 +1,13 @@
+-- The loop's invariant: no byte seen is above the highest. Assumes nothing.
+use Prim.Native.Nat.{◌-◌}
+use native.Mathlib.Omega.{arith}
+use mathlib.Core.Logic.{⊎_elim}
+use Rattle.ranges.proofs.Folds.{Capped, capped_more, blank_whole}
+use borrow.Author.Rules.{rules}
+use Rattle.ranges.proofs.are_zero.Given as goal
+
+abbrev pub invariant-loop-o : goal.invariant-loop-o
+invariant-loop-o l = Capped l.bytes l.from l.o l.top
+
+abbrev pub decreases-loop-o : goal.decreases-loop-o
+decreases-loop-o l = l.end - l.o
