@@ -35,6 +35,8 @@ module _ (rows : List (Row ℕ)) where
     where
       kept : (b : Bool) (h : Face ℕ) → Member g (if b then h ∷ [] else []) → T b × (h ≡ g)
       kept true h here = (tt, refl)
+      kept true h (there m) = elim m [ ]
+      kept false h m = elim m [ ]
 
   pub from_alone : {g : Face ℕ} → Member g (boundary_faces rows)
       → (x : HalfFace) × Member x (half_faces (length rows)) × T (alone rows x) × (outward rows x ≡ g)
