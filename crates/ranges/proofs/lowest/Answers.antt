@@ -2,11 +2,11 @@
 use Prim.Native.Nat.{◌-◌}
 use native.Mathlib.Omega.{arith}
 use mathlib.Core.Bool.{false}
-use mathlib.Core.Logic.{⊎_elim}
 use mir.Syntax.{w16}
 use mir.Val.{to_z}
 use Rattle.ranges.proofs.Folds.{Without, lower, not_lower, none_whole}
 use borrow.Author.Rules.{rules}
+use Rattle.ranges.proofs.lowest.Goals.{then-x-least, else-x-least}
 use Rattle.ranges.proofs.lowest.Goals as goal
 
 pub loop-p-init : goal.loop-p-init
@@ -21,9 +21,10 @@ bounds-samples-p c = omega (arith, c.lesser-end.ensures.1)
 pub loop-p-preserved : goal.loop-p-preserved
 loop-p-preserved c =
     let x = c.x-1.given in
-    let i = c.loop-p in
-    ⊎_elim (λ w. lower _ _ _ i.least _ x i.invariant w.0.taken w.1)
-    (λ w. not_lower _ _ _ i.least _ x i.invariant w.0.left w.1) c.if-x-least.branch
+    elim c.if-x-least.branch [
+      then-x-least w ↦ lower _ _ _ c.loop-p.least-bits _ x c.loop-p.invariant w.if-x-least.true w.least-is
+      | else-x-least w ↦ not_lower _ _ _ c.loop-p.least-bits _ x c.loop-p.invariant w.if-x-least.false w.least-is
+    ]
 
 pub returns : goal.returns
 returns c = none_whole c.loop-p-test.false c.lesser-end.ensures.2 c.loop-p.invariant

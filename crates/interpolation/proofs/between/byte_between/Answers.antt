@@ -3,7 +3,6 @@ use native.Mathlib.Omega.{arith}
 use mathlib.Core.Path.{ap, ap₂, ◌∙◌}
 use Rattle.mending.specs.Mend.{rounded, held}
 use Rattle.interpolation.proofs.Sizes.{size_handed}
-use borrow.Author.Rules.{rules}
 use Rattle.interpolation.proofs.between.byte_between.Goals as goal
 
 pub rounded-requires : goal.rounded-requires

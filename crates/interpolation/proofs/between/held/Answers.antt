@@ -2,7 +2,6 @@
 use native.Mathlib.Omega.{arith}
 use mathlib.Core.Path.{sym}
 use Rattle.mending.proofs.Step.{held_low, held_high, held_free}
-use borrow.Author.Rules.{rules}
 use Rattle.interpolation.proofs.between.held.Goals as goal
 
 pub returns-then-r-lt1 : goal.returns-then-r-lt1

@@ -1,7 +1,6 @@
 -- The definition, in numbers that fit. Assumes nothing.
 use mathlib.Core.Path.{refl}
 use Rattle.mending.specs.Mend.{rounded}
-use borrow.Author.Rules.{rules}
 use Rattle.interpolation.proofs.between.rounded.Goals as goal
 
 pub returns : goal.returns

@@ -14,13 +14,14 @@ pub overflow_cast-result : goal.overflow_cast-result
 overflow_cast-result c = let k = turned _ c.ranges.a c.if-wide-lt0.true in (k.not_negative, k.fits)
 
 pub returns-then-wide-lt0 : goal.returns-then-wide-lt0
-returns-then-wide-lt0 c = let k = turned _ c.ranges.a c.if-wide-lt0.true in (k.is, omega (arith, k.small))
+returns-then-wide-lt0 c = let k = turned _ c.ranges.a c.if-wide-lt0.true in
+    record { value = k.is; upper_bound = omega (arith, k.small) }
 
 pub overflow_cast-result-2 : goal.overflow_cast-result-2
 overflow_cast-result-2 c = let k = straight _ c.ranges.a c.if-wide-lt0.false in (k.not_negative, k.fits)
 
 pub returns : goal.returns
 returns c = let k = straight _ c.ranges.a c.if-wide-lt0.false in record {
-      value = k.is;
-      upper_bound = omega (arith, k.small);
-    }
+  value = k.is;
+  upper_bound = omega (arith, k.small);
+}
