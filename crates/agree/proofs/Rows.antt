@@ -4,7 +4,7 @@ use Prim.Native.Nat.{ℕ, ◌+◌, ◌-◌, ◌/◌, ◌%◌, ◌<◌}
 use native.Mathlib.Omega.{arith}
 use mathlib.Core.Path.{◌≡◌, refl, sym, ap, ◌∙◌}
 use mathlib.Core.Bool.{Bool, true, false, not}
-use mathlib.Core.List.{List, ◌∷◌, map}
+use mathlib.Core.List.{List, [], ◌∷◌, map}
 use lib.IntN.{pos}
 use lib.Signed.{lt_z}
 use lib.ListN.{get_or}
@@ -127,7 +127,7 @@ module _ (m : Reading) (asked : Asked m) (fits : Fits m) (codes : List ℕ) (rea
 
 -- what a mapped list holds
 mapped : {A B : Type 0} (f : A → B) (l : List A) {y : B} → Member y (map f l) → (x : A) × Member x l × (y ≡ f x)
-mapped {A = A} {B = B} f mathlib.Core.List.[] {y = y} x' = elim x' [ ]
+mapped f [] m = elim m [ ]
 mapped f (x ∷ l) here = (x, here, refl)
 mapped f (x ∷ l) (there m) = let (z, n, e) = mapped f l m in (z, there n, e)
 

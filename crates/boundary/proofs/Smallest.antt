@@ -67,12 +67,12 @@ module _ {A : Type 0} (g : A → ℤ) where
 
   below_rest : {z : ℤ} {y : A} (m : ℤ) {l : List A} → Member y l → z <ℤ least_from g m l → z <ℤ g y
   unfolding least_from
-  below_rest {z = z} {y = y} m {l = []} x5 h = elim x5 [ ]
+  below_rest m {l = []} p h = elim p [ ]
   below_rest m {l = x ∷ l} here h = (below_both (g x) m (below_first (lesser (g x) m) l h)).0
   below_rest m {l = x ∷ l} (there p) h = below_rest (lesser (g x) m) p h
 
   pub smallest_least : (l : List A) (y : A) → Member y l → lt_z (g y) (smallest g l) ≡ false
   unfolding smallest
-  smallest_least [] y x' = elim x' [ ]
+  smallest_least [] y p = elim p [ ]
   smallest_least (x ∷ l) y here = F-false _ (λ t. <ℤ_irrefl (below_first (g x) l (lt_z_yes t)))
   smallest_least (x ∷ l) y (there p) = F-false _ (λ t. <ℤ_irrefl (below_rest (g x) p (lt_z_yes t)))

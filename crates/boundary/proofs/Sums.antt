@@ -34,7 +34,7 @@ module _ {A : Type 0} where
   pub sum_one : (g : A → ℤ) {a : A} {l : List A} → NoRepeats l → Member a l
       → ((y : A) → Member y l → (y ≡ a → ⊥) → g y ≡ pos 0) → sum g l ≡ g a
   unfolding sum
-  sum_one g {a = a} empty x5 e = elim x5 [ ]
+  sum_one g empty m e = elim m [ ]
   sum_one g {a = a} (more {l = l} n p) here e =
       then (g a) (sum_zero g l (λ y m. e y (there m) (λ q. n (subst (λ (x : A). Member x l) q m)))) ∙ +ℤ_idr (g a)
   sum_one g {a = a} (more {x = x} {l = l} n p) (there m) e =

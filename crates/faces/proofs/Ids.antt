@@ -142,7 +142,7 @@ module _ (s : Sizes) (t u : Tetrahedron) (ht : Valid s t) (hu : Valid s u) where
 
   pub id_same : (x y : Entry Vertex) → Alike (corner_number s t) (corner_number s u) x y → id_of s t x ≡ id_of s u y
   unfolding id_of
-  id_same (point a) (between c d) x3 = elim x3 [ ]
-  id_same (between a b) (point c) x4 = elim x4 [ ]
+  id_same (point a) (between c d) e = elim e [ ]
+  id_same (between a b) (point c) e = elim e [ ]
   id_same (point a) (point c) (on_one e) = e
   id_same (between a b) (between c d) (on_two e f) = cut_same a b c d e f

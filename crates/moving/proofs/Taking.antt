@@ -63,7 +63,7 @@ module _ {m : Reading} {pick : List ℕ → ℕ → ℕ} (sound : Sound m pick) 
   pub move_by_calm : (t : List ℕ) {p : ℕ} (order : List ℕ) → length t ≡ points m.sizes → PointsOnly m order
       → Complete m pick p → Member p order → Calm m (move_by pick order t) p
   unfolding move_by
-  move_by_calm t {p = p} [] long h complete x4 = elim x4 [ ]
+  move_by_calm t [] long h complete i = elim i [ ]
   move_by_calm t (p ∷ order) long h complete here =
       let turned = turn_length pick t p ∙ long in
       let after = run_move_by turned order (λ q i. h q (there i)) start in
