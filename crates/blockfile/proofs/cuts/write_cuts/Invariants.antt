@@ -1,0 +1,14 @@
+-- What is left to lay down, laid down, gives the whole. Assumes nothing.
+use Prim.Native.Nat.{◌-◌}
+use mathlib.Core.Path.{ap, ◌∙◌}
+use native.Mathlib.Omega.{arith}
+use lib.ListN.{length, length-take, length-drop}
+use lib.Seq.{length-sets}
+use Rattle.blockfile.proofs.Laid.{Laid, laid_first, next_fits, next_there, cleared_long, laid_next, laid_all}
+use Rattle.blockfile.proofs.cuts.write_cuts.Given as goal
+
+abbrev pub invariant-loop-i : goal.invariant-loop-i
+invariant-loop-i l = Laid l.bytes l.head l.count l.first l.total l.initial.table l.table l.k l.at l.i
+
+abbrev pub decreases-loop-i : goal.decreases-loop-i
+decreases-loop-i l = l.count - l.i

@@ -1,0 +1,6 @@
+-- The four corners, and the exchange of the last two. Assumes nothing.
+use borrow.Author.Rules.{rules}
+use Rattle.rows.proofs.stencils.corner_row.Goals as goal
+
+pub returns : goal.returns
+returns c = cc
