@@ -1,7 +1,5 @@
 -- The place call's refusals, then 13, then the point. Assumes nothing.
 use mathlib.Core.Path.{sym, ap, ◌∙◌}
-use borrow.Author.Rules.{rules}
-use borrow.Author.Tests.{not-true, not-false}
 use Rattle.metric.specs.declared.Metric.{Metric}
 use Rattle.metric.proofs.Cases.{own_refusal, unit_refusal, in_steps}
 use Rattle.scale.proofs.in_millimetres.Goals as goal
@@ -14,11 +12,11 @@ returns-then-p-ne0 c =
 pub returns-then-not-unit_fits : goal.returns-then-not-unit_fits
 returns-then-not-unit_fits c =
     let a = c.args in
-    let out = sym c.unit_fits.ensures ∙ not-true _ c.if-not-unit_fits.true in
+    let out = sym c.unit_fits.ensures ∙ c.if-not-unit_fits.true in
     c.refused-then-not-unit_fits.ensures ∙ unit_refusal a.unit a.p c.if-p-ne0.false out
 
 pub returns : goal.returns
 returns c =
     let a = c.args in
-    let in_range = sym c.unit_fits.ensures ∙ not-false _ c.if-not-unit_fits.false in
+    let in_range = sym c.unit_fits.ensures ∙ c.if-not-unit_fits.false in
     ap (λ (m : Metric). record { number = 0; point = m }) c.point-m.ensures ∙ in_steps a.unit a.p c.if-p-ne0.false in_range

@@ -1,6 +1,5 @@
 -- Every u32 is an f64, and the product is the definition's own. Assumes nothing.
 use mathlib.Core.Path.{refl}
-use borrow.Author.Rules.{rules}
 use Rattle.metric.specs.Millimetres.{scaled}
 use Rattle.scale.proofs.times.Goals as goal
 

@@ -1,6 +1,5 @@
 -- No coordinate is below 0, and each fits. Assumes nothing.
 use Rattle.triple.proofs.Box.{cast_up}
-use borrow.Author.Rules.{rules}
 use Rattle.places.proofs.locate.answered.Goals as goal
 
 pub overflow_cast-result : goal.overflow_cast-result

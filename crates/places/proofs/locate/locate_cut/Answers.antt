@@ -12,8 +12,6 @@ use Rattle.triple.specs.inner.Places.{along}
 use Rattle.places.proofs.Decoded.{site_leads, site_rest, site_le}
 use Rattle.places.proofs.Standing.{start_code, start_along}
 use Rattle.places.proofs.Answers.{along-up, cut_none, cut-absent, cut-starts, cut-ends, cut-answer}
-use borrow.Author.Tests.{not-true, not-false}
-use borrow.Author.Rules.{rules}
 use Rattle.places.proofs.locate.locate_cut.Goals as goal
 
 pub returns-then-t-eq0 : goal.returns-then-t-eq0
@@ -30,7 +28,7 @@ pub neighbour-far-requires : goal.neighbour-far-requires
 neighbour-far-requires c =
     let o = c.args.o in
     let site = siting c.args.s (o / 7) _ c.locate-q.ensures (omega arith) in
-    (c.requires.sized, (site.0, start_code (o % 7) (omega arith)))
+    record { sized = c.requires.sized; sited = site.0; code = start_code (o % 7) (omega arith) }
 
 pub bounds-state-n : goal.bounds-state-n
 bounds-state-n c =
@@ -66,7 +64,7 @@ returns-then-not-says_zero c =
     let led = ap (λ (f : Axis → ℤ). along f (direction (o % 7)) (get_or a.cuts.now o 0)) rests in
     c.answered.ensures
     ∙ cut-answer a.s a.cuts.now a.state.now o _ to c.if-t-eq0.false (sym c.says_zero.ensures ∙ c.if-says_zero.false)
-    (sym c.says_zero-in-At.ensures ∙ not-true _ c.if-not-says_zero.true) _
+    (sym c.says_zero-in-At.ensures ∙ c.if-not-says_zero.true) _
     (c.cut_place.ensures.result_value ∙ led)
 
 pub returns-else-not-says_zero : goal.returns-else-not-says_zero
@@ -76,7 +74,7 @@ returns-else-not-says_zero c =
     let to = site_leads a.s (o / 7) _ c.locate-q.ensures (o % 7 + 1) c.neighbour-far.ensures c.in-At.is in
     c.refused-in-At.ensures
     ∙ cut-ends a.s a.cuts.now a.state.now o _ to c.if-t-eq0.false (sym c.says_zero.ensures ∙ c.if-says_zero.false)
-    (sym c.says_zero-in-At.ensures ∙ not-false _ c.if-not-says_zero.false)
+    (sym c.says_zero-in-At.ensures ∙ c.if-not-says_zero.false)
 
 pub returns-in-Nothing : goal.returns-in-Nothing
 returns-in-Nothing c =

@@ -5,7 +5,6 @@ use Rattle.moving.proofs.Bytes.{move_code}
 use Rattle.triple.proofs.Box.{box_wider}
 use Rattle.places.proofs.Decoded.{site_rest, site_le}
 use Rattle.places.proofs.Answers.{rest_up, point-rests, point-moved, point-strange}
-use borrow.Author.Rules.{rules}
 use Rattle.places.proofs.locate.locate_point.Goals as goal
 
 pub overflow_cast-code : goal.overflow_cast-code

@@ -14,7 +14,6 @@ use Rattle.lines.proofs.Sites.{siting, byte_lt}
 use Rattle.triple.specs.inner.Places.{along}
 use Rattle.places.proofs.Decoded.{site_leads, site_rest, site_le}
 use Rattle.places.proofs.Answers.{measured-small, along-up, moved_none, moved-far, moved-answer}
-use borrow.Author.Rules.{rules}
 use Rattle.places.proofs.locate.moved_point.Goals as goal
 
 pub rest_place-rest-requires : goal.rest_place-rest-requires
@@ -23,7 +22,7 @@ rest_place-rest-requires c =
 
 pub neighbour-far-requires : goal.neighbour-far-requires
 neighbour-far-requires c =
-    (c.requires.sized, ((siting c.args.s c.args.p _ c.locate-q.ensures c.requires.p_bound).0, c.requires.code))
+    record { sized = c.requires.sized; sited = (siting c.args.s c.args.p _ c.locate-q.ensures c.requires.p_bound).0; code = c.requires.code }
 
 pub edge_byte-requires : goal.edge_byte-requires
 edge_byte-requires c =

@@ -2,7 +2,6 @@
 use mathlib.Core.Path.{◌∙◌}
 use Rattle.triple.specs.inner.Places.{place_at}
 use Rattle.places.proofs.Standing.{start_along}
-use borrow.Author.Rules.{rules}
 use Rattle.places.proofs.points.cut_place.Goals as goal
 
 pub returns : goal.returns

@@ -4,7 +4,6 @@ use Prim.Native.Nat.{ℕ}
 use Rattle.lattice.specs.Direction.{step}
 use Rattle.triple.specs.inner.Places.{place_at, along}
 use Rattle.places.proofs.Standing.{measured_start, measured_end}
-use borrow.Author.Rules.{rules}
 use Rattle.places.proofs.points.moved_place.Goals as goal
 
 pub returns-then-code-le7 : goal.returns-then-code-le7

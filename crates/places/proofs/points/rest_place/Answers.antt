@@ -5,7 +5,6 @@ use Rattle.lattice.proofs.Sites.{odd_small}
 use Rattle.geometry.specs.Place.{lattice_place}
 use Rattle.triple.proofs.Box.{place_is, box_of}
 use Rattle.places.proofs.Standing.{rested}
-use borrow.Author.Rules.{rules}
 use Rattle.places.proofs.points.rest_place.Goals as goal
 
 pub coordinate-px-requires : goal.coordinate-px-requires

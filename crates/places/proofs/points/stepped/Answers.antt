@@ -2,7 +2,6 @@
 use native.Mathlib.Omega.{arith}
 use Prim.Native.Nat.{ℕ, ◌≤◌}
 use lib.IntN.{pos, ◌-ℤ◌}
-use borrow.Author.Rules.{rules}
 use Rattle.triple.specs.inner.Places.{place_box}
 use Rattle.triple.proofs.Box.{Is, back, nat_within, wider, held, add_is, sub_is, mul_is, add_fits, sub_fits, mul_fits}
 use Rattle.places.proofs.points.stepped.Goals as goal

@@ -1,11 +1,10 @@
 -- The loop's invariant: no part before p is hit. Assumes nothing.
-use Prim.Native.Nat.{◌-◌}
 use native.Mathlib.Omega.{arith}
 use mathlib.Core.Path.{sym, ap, ◌∙◌}
 use mathlib.Core.Bool.{true}
 use Rattle.basics.proofs.Test.{false_F}
 use Rattle.bitmap.specs.inner.Bits.{marked}
-use Rattle.windows.proofs.Missing.{MissedTo, missed_none, missed_more, missed_all}
+use Rattle.windows.proofs.Missing.{missed_none, missed_more, missed_all}
 use Rattle.windows.proofs.hit.is_hit.Goals as goal
 
 pub overflow_add-p-end : goal.overflow_add-p-end

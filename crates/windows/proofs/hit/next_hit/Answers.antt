@@ -1,7 +1,5 @@
 -- The loop's invariant: no window from the first on and before w is hit. Assumes nothing.
-use Prim.Native.Nat.{◌-◌}
 use native.Mathlib.Omega.{arith}
-use Rattle.windows.specs.inner.Windows.{NextHit}
 use Rattle.windows.proofs.Missing.{next_none, next_more}
 use Rattle.windows.proofs.hit.next_hit.Goals as goal
 
@@ -10,9 +8,9 @@ loop-w-init c = next_none c.requires.from_le_windows
 
 pub is_hit-requires : goal.is_hit-requires
 is_hit-requires c = record {
-      hits_len = c.requires.hits_len;
-      w_lt_windows = omega (arith, c.loop-w-test.true);
-    }
+  hits_len = c.requires.hits_len;
+  w_lt_windows = omega (arith, c.loop-w-test.true);
+}
 
 pub returns-then-is_hit : goal.returns-then-is_hit
 returns-then-is_hit c = c.loop-w.invariant

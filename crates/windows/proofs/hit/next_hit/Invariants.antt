@@ -1,8 +1,6 @@
 -- The loop's invariant: no window from the first on and before w is hit. Assumes nothing.
 use Prim.Native.Nat.{◌-◌}
-use native.Mathlib.Omega.{arith}
 use Rattle.windows.specs.inner.Windows.{NextHit}
-use Rattle.windows.proofs.Missing.{next_none, next_more}
 use Rattle.windows.proofs.hit.next_hit.Given as goal
 
 abbrev pub invariant-loop-w : goal.invariant-loop-w

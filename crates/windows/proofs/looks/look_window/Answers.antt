@@ -2,13 +2,13 @@
 use Prim.Native.Nat.{◌+◌, ◌*◌, ◌-◌}
 use native.Mathlib.Omega.{arith}
 use mathlib.Core.Path.{sym, ap, ◌∙◌}
-use mathlib.Core.Logic.{⊎_elim}
 use Rattle.bitmap.specs.inner.Bits.{marked}
-use Rattle.windows.specs.inner.Windows.{window, part, look_in}
+use Rattle.windows.specs.inner.Windows.{part}
 use Rattle.windows.proofs.Windowing.{not_there}
 use Rattle.windows.proofs.Putting.{look_out}
-use Rattle.windows.proofs.Rewriting.{RewritesTo, rewrites_none, rewrites_all, rewrites_part, rewrites_kept}
+use Rattle.windows.proofs.Rewriting.{rewrites_none, rewrites_all, rewrites_part, rewrites_kept}
 use Rattle.windows.proofs.looks.look_window.Goals as goal
+use Rattle.windows.proofs.looks.look_window.Goals.{then-is_marked, else-is_marked}
 
 pub loop-p-init : goal.loop-p-init
 loop-p-init c = rewrites_none _ _
@@ -24,16 +24,16 @@ loop-p-preserved c =
     let p = c.loop-p.p in
     let b = part * (p + 1) in
     let is = ap (marked _) (sym c.slot.ensures.value) ∙ sym c.is_marked.ensures in
-    ⊎_elim
-    (λ w.
-    let n = w.1.result - 256 * p in
-    let e = w.1.ensures in
-    rewrites_part i b n (omega arith) (omega arith) (omega arith) (λ s. omega (arith, e.3 (omega arith)))
-    w.3.ensures w.6)
-    (λ w.
-    let none = not_there c.requires.known (is ∙ w.0.left) in
-    rewrites_kept i b (omega arith) (λ j h m s. look_out _ _ _ (none j h (omega arith))) w.1)
-    c.if-is_marked.branch
+    elim c.if-is_marked.branch [
+      | then-is_marked w ↦
+          let n = w.part_end-e.result - 256 * p in
+          let e = w.part_end-e.ensures in
+          rewrites_part i b n (omega arith) (omega arith) (omega arith) (λ s. omega (arith, e.3 (omega arith)))
+          w.look_part.ensures w.rows-is
+      | else-is_marked w ↦
+          let none = not_there c.requires.known (is ∙ w.if-is_marked.false) in
+          rewrites_kept i b (omega arith) (λ j h m s. look_out _ _ _ (none j h (omega arith))) w.rows-is
+    ]
 
 pub shape_of-rows : goal.shape_of-rows
 shape_of-rows c = c.loop-p.invariant.long

@@ -1,7 +1,6 @@
 -- The loop's invariant: the entries below k are written, and the next number is that of k. Assumes nothing.
 use Prim.Native.Nat.{◌-◌}
-use native.Mathlib.Omega.{arith}
-use Rattle.windows.proofs.Unrolling.{Unrolls, unrolls_none, unrolls_fits, unrolls_more, unrolls_all}
+use Rattle.windows.proofs.Unrolling.{Unrolls}
 use Rattle.windows.proofs.looks.unroll.Given as goal
 
 abbrev pub invariant-loop-k : goal.invariant-loop-k

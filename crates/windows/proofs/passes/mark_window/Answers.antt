@@ -2,12 +2,11 @@
 use Prim.Native.Nat.{◌*◌, ◌-◌}
 use native.Mathlib.Omega.{arith}
 use mathlib.Core.Path.{sym, ap, ◌∙◌}
-use mathlib.Core.Logic.{⊎_elim}
 use Rattle.bitmap.specs.inner.Bits.{marked}
-use Rattle.windows.specs.inner.Windows.{window}
-use Rattle.windows.proofs.Windowing.{WindowedTo, windowed_none, windowed_all}
+use Rattle.windows.proofs.Windowing.{windowed_none, windowed_all}
 use Rattle.windows.proofs.Windowing.{marked_part, passed_part, not_there}
 use Rattle.windows.proofs.passes.mark_window.Goals as goal
+use Rattle.windows.proofs.passes.mark_window.Goals.{then-is_marked, else-is_marked}
 
 pub clear-requires : goal.clear-requires
 clear-requires c = tt
@@ -25,13 +24,13 @@ loop-p-preserved c =
     let l = c.loop-p-test.true in
     let i = c.loop-p.invariant in
     let is = ap (marked _) (sym c.slot.ensures.value) ∙ sym c.is_marked.ensures in
-    ⊎_elim
-    (λ w.
-    let n = w.1.result - 256 * c.loop-p.p in
-    let e = w.1.ensures in
-    marked_part i n (omega arith) (λ s. omega (arith, e.3 (omega arith))) w.4.ensures w.7)
-    (λ w. passed_part i (not_there c.requires.known (is ∙ w.0.left)) w.1)
-    c.if-is_marked.branch
+    elim c.if-is_marked.branch [
+      | then-is_marked w ↦
+          let n = w.part_end-e.result - 256 * c.loop-p.p in
+          let e = w.part_end-e.ensures in
+          marked_part i n (omega arith) (λ s. omega (arith, e.3 (omega arith))) w.mark_part.ensures w.bits-is
+      | else-is_marked w ↦ passed_part i (not_there c.requires.known (is ∙ w.if-is_marked.false)) w.bits-is
+    ]
 
 pub shape_of-bits : goal.shape_of-bits
 shape_of-bits c =

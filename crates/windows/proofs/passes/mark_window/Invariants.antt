@@ -1,12 +1,7 @@
 -- The loop's invariant: the window's ids in the first p parts are marked, and no others. Assumes nothing.
-use Prim.Native.Nat.{◌*◌, ◌-◌}
-use native.Mathlib.Omega.{arith}
-use mathlib.Core.Path.{sym, ap, ◌∙◌}
-use mathlib.Core.Logic.{⊎_elim}
-use Rattle.bitmap.specs.inner.Bits.{marked}
+use Prim.Native.Nat.{◌*◌}
 use Rattle.windows.specs.inner.Windows.{window}
-use Rattle.windows.proofs.Windowing.{WindowedTo, windowed_none, windowed_all}
-use Rattle.windows.proofs.Windowing.{marked_part, passed_part, not_there}
+use Rattle.windows.proofs.Windowing.{WindowedTo}
 use Rattle.windows.proofs.passes.mark_window.Given as goal
 
 abbrev pub invariant-loop-p : goal.invariant-loop-p

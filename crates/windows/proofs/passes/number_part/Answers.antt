@@ -1,12 +1,10 @@
 -- The loop's invariant: the entries below i are rewritten. Assumes nothing.
-use Prim.Native.Nat.{◌-◌}
 use native.Mathlib.Omega.{arith}
 use mathlib.Core.Path.{sym, ◌∙◌}
-use mathlib.Core.Logic.{⊎_elim}
-use Rattle.windows.specs.inner.Windows.{put_in}
 use Rattle.windows.proofs.Putting.{put_in_law, put_out}
-use Rattle.windows.proofs.Rewriting.{RewritesTo, rewrites_none, rewrites_one, rewrites_stay, rewrites_all}
+use Rattle.windows.proofs.Rewriting.{rewrites_none, rewrites_one, rewrites_stay, rewrites_all}
 use Rattle.windows.proofs.passes.number_part.Goals as goal
+use Rattle.windows.proofs.passes.number_part.Goals.{then-lo-entry+then-k-lt-WINDOW, then-lo-entry+else-k-lt-WINDOW, else-lo-entry}
 
 pub loop-i-init : goal.loop-i-init
 loop-i-init c = rewrites_none _ _
@@ -24,14 +22,14 @@ number_at-requires c =
 
 pub loop-i-preserved : goal.loop-i-preserved
 loop-i-preserved c =
-    let a = c.args in
     let i = c.loop-i.invariant in
     let l = c.loop-i-test.true in
-    let out = put_out a.bits.now a.first a.lo _ in
-    ⊎_elim
-    (λ w. rewrites_one i _ l (w.2.ensures ∙ sym (put_in_law _ _ _ _ (omega arith) (omega arith))) w.3) (⊎_elim
-    (λ w. rewrites_stay i (out (λ k u e. omega arith)) w.2)
-    (λ w. rewrites_stay i (out (λ k u e. omega arith)) w.1)) c.if-lo-entry.branch
+    elim c.if-lo-entry.branch [
+      | then-lo-entry+then-k-lt-WINDOW w ↦
+          rewrites_one i _ l (w.number_at.ensures ∙ sym (put_in_law _ _ _ _ (omega arith) (omega arith))) w.rows-is
+      | then-lo-entry+else-k-lt-WINDOW w ↦ rewrites_stay i (put_out _ _ _ _ (λ k u e. omega arith)) w.rows-is
+      | else-lo-entry w ↦ rewrites_stay i (put_out _ _ _ _ (λ k u e. omega arith)) w.rows-is
+    ]
 
 pub shape_of-rows : goal.shape_of-rows
 shape_of-rows c = c.loop-i.invariant.long

@@ -3,9 +3,8 @@ use Prim.Native.Nat.{◌*◌, ◌-◌}
 use native.Mathlib.Omega.{arith}
 use mathlib.Core.Path.{refl, sym, ◌∙◌}
 use mathlib.Core.Bool.{true}
-use borrow.Author.Tests.{not-true, not-false}
 use Rattle.basics.proofs.Test.{false_F}
-use Rattle.windows.proofs.Spreading.{Spreads, spreads_none, spreads_more, spreads_all, beyond_part}
+use Rattle.windows.proofs.Spreading.{spreads_none, spreads_more, spreads_all, beyond_part}
 use Rattle.windows.proofs.spread.spread.Goals as goal
 
 pub loop-p-init : goal.loop-p-init
@@ -23,7 +22,7 @@ returns-then-not-spread_part c =
     let l = c.loop-p-test.true in
     let a = 256 * c.loop-p.p in
     let n = c.part_end-e.result - a in
-    let found = c.spread_part.ensures.beyond (not-true _ c.if-not-spread_part.true) in record {
+    let found = c.spread_part.ensures.beyond (c.if-not-spread_part.true) in record {
       hits_len = c.spread_part.ensures.grows.long ∙ c.loop-p.invariant.long;
       spread = λ t. absurd (false_F true (sym t) tt);
       beyond = λ f. beyond_part _ a n (omega arith) found;
@@ -34,7 +33,7 @@ loop-p-preserved c =
     let l = c.loop-p-test.true in
     let a = 256 * c.loop-p.p in
     let n = c.part_end-e.result - a in
-    let told = c.spread_part.ensures.told (not-false _ c.if-not-spread_part.false) in
+    let told = c.spread_part.ensures.told (c.if-not-spread_part.false) in
     spreads_more _ a n (omega arith) refl (omega arith) (λ s. omega (arith, c.part_end-e.ensures.3 (omega arith))) told
     c.loop-p.invariant c.spread_part.ensures.grows
 

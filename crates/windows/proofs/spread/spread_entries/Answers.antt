@@ -1,13 +1,11 @@
 -- The loop's invariant: the entries below i are in windows, and have their hits. Assumes nothing.
-use Prim.Native.Nat.{◌-◌}
 use native.Mathlib.Omega.{arith}
-use mathlib.Core.Logic.{⊎_elim}
 use mathlib.Core.Path.{sym}
 use mathlib.Core.Bool.{true}
-use borrow.Author.Tests.{not-false}
 use Rattle.basics.proofs.Test.{false_F}
-use Rattle.windows.proofs.Spreading.{Tells, tells_none, tells_marked, tells_known, tells_all}
+use Rattle.windows.proofs.Spreading.{tells_none, tells_marked, tells_known, tells_all}
 use Rattle.windows.proofs.spread.spread_entries.Goals as goal
+use Rattle.windows.proofs.spread.spread_entries.Goals.{then-not-is_marked, else-not-is_marked}
 
 pub loop-i-init : goal.loop-i-init
 loop-i-init c = tells_none _ _ _
@@ -32,10 +30,10 @@ loop-i-preserved c =
     let i = c.loop-i.invariant in
     let e = c.slot-k.ensures.value in
     let known = tells_known i low e c.is_marked.ensures in
-    ⊎_elim
-    (λ w. tells_marked i low e w.2.ensures w.5)
-    (λ w. known (not-false _ w.0.left) w.1)
-    c.if-not-is_marked.branch
+    elim c.if-not-is_marked.branch [
+      | then-not-is_marked w ↦ tells_marked i low e w.mark.ensures w.hits-is
+      | else-not-is_marked w ↦ known w.if-not-is_marked.false w.hits-is
+    ]
 
 pub shape_of-hits : goal.shape_of-hits
 shape_of-hits c = c.loop-i.invariant.grown.long

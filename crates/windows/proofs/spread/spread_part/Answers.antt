@@ -2,7 +2,6 @@
 use native.Mathlib.Omega.{arith}
 use mathlib.Core.Path.{sym, ap, ◌∙◌}
 use mathlib.Core.Bool.{true}
-use borrow.Author.Rules.{rules}
 use Rattle.basics.proofs.Test.{false_F}
 use Rattle.bitmap.specs.inner.Bits.{marked}
 use Rattle.windows.proofs.Hits.{grows_add, add_hit, low_told}
