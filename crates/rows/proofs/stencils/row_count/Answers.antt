@@ -38,6 +38,6 @@ returns-in-0-to-4 c = record {
 
 pub returns-in_default : goal.returns-in_default
 returns-in_default c = record {
-      value = count_one _ c.in_default.if-pattern-lt5-own.false c.in_default-1.rest.0.0.1 c.in_default-1.rest.0.1 c.in_default-1.rest.1;
+      value = count_one _ (omega arith) (omega arith) (omega arith) (omega arith);
       upper_bound = omega arith;
     }
