@@ -1,8 +1,6 @@
 -- The loop's invariant: no byte seen is above the highest. Assumes nothing.
-use Prim.Native.Nat.{◌-◌}
 use native.Mathlib.Omega.{arith}
-use Rattle.ranges.proofs.Folds.{Capped, capped_more, blank_whole}
-use borrow.Author.Rules.{rules}
+use Rattle.ranges.proofs.Folds.{capped_more, blank_whole}
 use Rattle.ranges.proofs.are_zero.Goals.{then-top-byte, else-top-byte}
 use Rattle.ranges.proofs.are_zero.Goals as goal
 
@@ -16,7 +14,7 @@ pub loop-o-preserved : goal.loop-o-preserved
 loop-o-preserved c =
     let i = c.loop-o.invariant in
     elim c.if-top-byte.branch [
-      then-top-byte w ↦ capped_more i (omega (arith, w.if-top-byte.true, w.top-is)) (omega (arith, w.top-is))
+      | then-top-byte w ↦ capped_more i (omega (arith, w.if-top-byte.true, w.top-is)) (omega (arith, w.top-is))
       | else-top-byte w ↦ capped_more i (omega (arith, w.top-is)) (omega (arith, w.if-top-byte.false, w.top-is))
     ]
 

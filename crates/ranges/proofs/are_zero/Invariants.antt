@@ -1,9 +1,6 @@
 -- The loop's invariant: no byte seen is above the highest. Assumes nothing.
 use Prim.Native.Nat.{◌-◌}
-use native.Mathlib.Omega.{arith}
-use mathlib.Core.Logic.{⊎_elim}
-use Rattle.ranges.proofs.Folds.{Capped, capped_more, blank_whole}
-use borrow.Author.Rules.{rules}
+use Rattle.ranges.proofs.Folds.{Capped}
 use Rattle.ranges.proofs.are_zero.Given as goal
 
 abbrev pub invariant-loop-o : goal.invariant-loop-o

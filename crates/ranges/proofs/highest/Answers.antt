@@ -1,11 +1,6 @@
 -- The loop's invariant: by whatever band, a sample seen has the label only if the outermost one has. Assumes nothing.
-use Prim.Native.Nat.{◌-◌}
 use native.Mathlib.Omega.{arith}
-use mathlib.Core.Bool.{true}
-use mir.Syntax.{w16}
-use mir.Val.{to_z}
-use Rattle.ranges.proofs.Folds.{Without, higher, not_higher, none_whole}
-use borrow.Author.Rules.{rules}
+use Rattle.ranges.proofs.Folds.{higher, not_higher, none_whole}
 use Rattle.ranges.proofs.highest.Goals.{then-most-x, else-most-x}
 use Rattle.ranges.proofs.highest.Goals as goal
 
@@ -22,7 +17,7 @@ pub loop-p-preserved : goal.loop-p-preserved
 loop-p-preserved c =
     let x = c.x-1.given in
     elim c.if-most-x.branch [
-      then-most-x w ↦ higher _ _ _ c.loop-p.most-bits _ x c.loop-p.invariant w.if-most-x.true w.most-is
+      | then-most-x w ↦ higher _ _ _ c.loop-p.most-bits _ x c.loop-p.invariant w.if-most-x.true w.most-is
       | else-most-x w ↦ not_higher _ _ _ c.loop-p.most-bits _ x c.loop-p.invariant w.if-most-x.false w.most-is
     ]
 

@@ -1,10 +1,6 @@
 -- The loop's invariant: where nothing was seen, the eights tested so far are zero. Assumes nothing.
 use Prim.Native.Nat.{◌+◌, ◌*◌, ◌-◌}
-use native.Mathlib.Omega.{arith}
-use mathlib.Core.Path.{sym, subst}
-use lib.Dec.{T}
-use Rattle.ranges.proofs.Eights.{Seen, none_seen, seen_more, blank_rest, nothing_there}
-use borrow.Author.Rules.{rules}
+use Rattle.ranges.proofs.Eights.{Seen}
 use Rattle.ranges.proofs.is_blank.Given as goal
 
 abbrev pub invariant-loop-k : goal.invariant-loop-k

@@ -1,11 +1,6 @@
 -- The loop's invariant: by whatever band, a sample seen has the label only if the outermost one has. Assumes nothing.
-use Prim.Native.Nat.{◌-◌}
 use native.Mathlib.Omega.{arith}
-use mathlib.Core.Bool.{false}
-use mir.Syntax.{w16}
-use mir.Val.{to_z}
-use Rattle.ranges.proofs.Folds.{Without, lower, not_lower, none_whole}
-use borrow.Author.Rules.{rules}
+use Rattle.ranges.proofs.Folds.{lower, not_lower, none_whole}
 use Rattle.ranges.proofs.lowest.Goals.{then-x-least, else-x-least}
 use Rattle.ranges.proofs.lowest.Goals as goal
 
@@ -22,7 +17,7 @@ pub loop-p-preserved : goal.loop-p-preserved
 loop-p-preserved c =
     let x = c.x-1.given in
     elim c.if-x-least.branch [
-      then-x-least w ↦ lower _ _ _ c.loop-p.least-bits _ x c.loop-p.invariant w.if-x-least.true w.least-is
+      | then-x-least w ↦ lower _ _ _ c.loop-p.least-bits _ x c.loop-p.invariant w.if-x-least.true w.least-is
       | else-x-least w ↦ not_lower _ _ _ c.loop-p.least-bits _ x c.loop-p.invariant w.if-x-least.false w.least-is
     ]
 

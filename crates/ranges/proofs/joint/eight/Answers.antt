@@ -2,7 +2,6 @@
 use native.Mathlib.Omega.{arith}
 use mathlib.Core.Path.{refl}
 use Rattle.ranges.proofs.Eights.{halves}
-use borrow.Author.Rules.{rules}
 use Rattle.ranges.proofs.joint.eight.Goals as goal
 
 pub returns : goal.returns

@@ -3,7 +3,6 @@ use Prim.Native.Nat.{◌+◌}
 use native.Mathlib.Omega.{arith}
 use mathlib.Core.Path.{refl}
 use Rattle.ranges.proofs.Eights.{one, halves}
-use borrow.Author.Rules.{rules}
 use Rattle.ranges.proofs.joint.two.Goals as goal
 
 pub overflow_cast-result : goal.overflow_cast-result
