@@ -5,7 +5,6 @@ use borrow.Author.Tests.{le-leb, lt-leb, ne_eqb}
 use mathlib.Core.Path.{◌∙◌}
 use Prim.Native.Nat.{◌<◌}
 use native.Mathlib.Omega.{arith}
-use borrow.Author.Rules.{rules}
 use Rattle.rows.proofs.stencils.rows_for.Goals as goal
 
 pub returns-in-6 : goal.returns-in-6

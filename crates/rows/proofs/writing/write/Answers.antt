@@ -4,7 +4,6 @@ use Rattle.rows.specs.inner.Stencils.{all_ids}
 use Rattle.basics.specs.Lists.{gather}
 use mathlib.Core.Path.{refl}
 use native.Mathlib.Omega.{arith}
-use borrow.Author.Rules.{rules}
 use Rattle.rows.proofs.writing.write.Goals as goal
 
 pub write_row-requires : goal.write_row-requires
