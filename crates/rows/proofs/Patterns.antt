@@ -1,6 +1,6 @@
 -- The rows of four labels with their winding are the lines of the table over the corners in order, all 81 patterns computed; and the order
 -- names each corner once. Assumes nothing.
-use Prim.Native.Nat.{ℕ, ◌+◌, ◌%◌}
+use Prim.Native.Nat.{ℕ}
 use mathlib.Core.Path.{◌≡◌, refl, ap, ◌∙◌}
 use mathlib.Core.Bool.{Bool, true, false, not, beq}
 use mathlib.Core.List.{List, [], ◌∷◌, map}

@@ -6,7 +6,7 @@ use Rattle.lattice.specs.Counts.{largest}
 use Rattle.lattice.specs.Direction.{direction_of}
 use Rattle.lattice.specs.Edge.{byte_at}
 use Rattle.stencil.specs.Tetrahedron.{Vertex, v0, v1, v2, v3, Quarter, q0, q1, q2, q3}
-use Rattle.stencil.specs.Stencil.{between, rank}
+use Rattle.stencil.specs.Stencil.{rank}
 use Rattle.stencil.specs.Id.{code_between, start_of}
 use Rattle.rows.specs.declared.Corner.{Corner}
 use Rattle.rows.specs.declared.Corner.TheVariants.{Point, Edge}

@@ -1,9 +1,7 @@
 -- What is left of the zeros, written, gives all of them. Assumes nothing.
-use Prim.Native.Nat.{◌-◌, ◌≤◌}
-use mathlib.Core.Path.{◌≡◌, refl, sym, ◌∙◌}
+use mathlib.Core.Path.{refl, sym, ◌∙◌}
 use native.Mathlib.Omega.{arith}
-use lib.ListN.{length, length-set, replicate}
-use lib.Seq.{sets}
+use lib.ListN.{length-set}
 use Rattle.basics.proofs.Stores.{store_next, store_none}
 use Rattle.blockfile.proofs.Left.{zeros_left, no_zeros_left}
 use Rattle.blockfile.proofs.cuts.clear.Goals as goal

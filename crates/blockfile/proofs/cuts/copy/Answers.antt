@@ -1,10 +1,8 @@
 -- What is left of the part, written, gives all of it. Assumes nothing.
-use Prim.Native.Nat.{◌+◌, ◌-◌, ◌≤◌}
-use mathlib.Core.Path.{◌≡◌, refl, sym, ◌∙◌}
+use mathlib.Core.Path.{refl, sym, ◌∙◌}
 use native.Mathlib.Omega.{arith}
 use native.Mathlib.Nat.{add-zero, add_assoc}
-use lib.ListN.{length, length-set, drop, drop_of_length-le}
-use lib.Seq.{sets}
+use lib.ListN.{length-set, drop_of_length-le}
 use Rattle.basics.proofs.Stores.{store_next, store_none}
 use Rattle.blockfile.proofs.Left.{part_left}
 use Rattle.blockfile.proofs.cuts.copy.Goals as goal

@@ -4,11 +4,15 @@ use mathlib.Core.Path.{ap, ◌∙◌}
 use native.Mathlib.Omega.{arith}
 use lib.ListN.{length, length-take, length-drop}
 use lib.Seq.{length-sets}
-use Rattle.blockfile.proofs.Laid.{Laid, laid_first, next_fits, next_there, cleared_long, laid_next, laid_all}
+use Rattle.blockfile.proofs.Laid.{laid_first, next_fits, next_there, cleared_long, laid_next, laid_all}
 use Rattle.blockfile.proofs.cuts.write_cuts.Goals as goal
 
 pub loop-i-init : goal.loop-i-init
 loop-i-init c = laid_first c.requires.count_in_bounds c.requires.count_value
+
+pub slice_bounds-copy-end : goal.slice_bounds-copy-end
+slice_bounds-copy-end c =
+    omega (arith, next_there c.loop-i.invariant c.loop-i-test.true c.run_at-r.ensures.value)
 
 pub overflow_add-next : goal.overflow_add-next
 overflow_add-next c =

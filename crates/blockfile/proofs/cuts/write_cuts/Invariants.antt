@@ -1,10 +1,6 @@
 -- What is left to lay down, laid down, gives the whole. Assumes nothing.
 use Prim.Native.Nat.{◌-◌}
-use mathlib.Core.Path.{ap, ◌∙◌}
-use native.Mathlib.Omega.{arith}
-use lib.ListN.{length, length-take, length-drop}
-use lib.Seq.{length-sets}
-use Rattle.blockfile.proofs.Laid.{Laid, laid_first, next_fits, next_there, cleared_long, laid_next, laid_all}
+use Rattle.blockfile.proofs.Laid.{Laid}
 use Rattle.blockfile.proofs.cuts.write_cuts.Given as goal
 
 abbrev pub invariant-loop-i : goal.invariant-loop-i

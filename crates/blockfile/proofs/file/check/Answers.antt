@@ -1,7 +1,5 @@
 -- Each way out by the checks that led there. Assumes nothing.
 use mathlib.Core.Path.{sym, ◌∙◌}
-use borrow.Author.Rules.{rules}
-use borrow.Author.Tests.{not-true, not-false}
 use Rattle.lattice.proofs.Sized.{fits_sized}
 use Rattle.blockfile.proofs.Outcome.{answer_of_law, refusal_is, refuse_short, refuse_size, refuse_bench, go_on}
 use Rattle.blockfile.proofs.file.check.Goals as goal
@@ -14,25 +12,25 @@ pub returns-then-not-sizes_fit : goal.returns-then-not-sizes_fit
 returns-then-not-sizes_fit c =
     refusal_is _ _ 1
     (refuse_size _ _ _ _ c.sizes_of-s.ensures c.if-bytes-lt3.false
-    (sym c.sizes_fit.ensures ∙ not-true _ c.if-not-sizes_fit.true))
+    (sym c.sizes_fit.ensures ∙ c.if-not-sizes_fit.true))
     c.refused-then-not-sizes_fit.ensures
 
 pub returns-then-is_beyond : goal.returns-then-is_beyond
 returns-then-is_beyond c =
     refusal_is _ _ 12
     (refuse_bench _ _ _ _ c.sizes_of-s.ensures c.if-bytes-lt3.false
-    (sym c.sizes_fit.ensures ∙ not-false _ c.if-not-sizes_fit.false)
+    (sym c.sizes_fit.ensures ∙ c.if-not-sizes_fit.false)
     (sym c.is_beyond.ensures ∙ c.if-is_beyond.true))
     c.refused-then-is_beyond.ensures
 
 pub check_body-requires : goal.check_body-requires
 check_body-requires c =
-    fits_sized _ (sym c.sizes_fit.ensures ∙ not-false _ c.if-not-sizes_fit.false)
+    fits_sized _ (sym c.sizes_fit.ensures ∙ c.if-not-sizes_fit.false)
 
 pub returns : goal.returns
 returns c =
     answer_of_law
     (go_on _ _ _ _ c.sizes_of-s.ensures c.if-bytes-lt3.false
-    (sym c.sizes_fit.ensures ∙ not-false _ c.if-not-sizes_fit.false)
+    (sym c.sizes_fit.ensures ∙ c.if-not-sizes_fit.false)
     (sym c.is_beyond.ensures ∙ c.if-is_beyond.false))
     c.check_body.ensures

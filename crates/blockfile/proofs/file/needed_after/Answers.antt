@@ -1,7 +1,6 @@
 -- A stage after the other. Assumes nothing.
 use native.Mathlib.Omega.{arith}
 use mathlib.Core.Path.{sym, ◌∙◌}
-use borrow.Author.Rules.{rules}
 use Rattle.blockfile.proofs.Stages.{up_to_headers, up_to_runs, up_to_end}
 use Rattle.blockfile.proofs.file.needed_after.Goals as goal
 

@@ -1,5 +1,4 @@
 -- A refusal is handed on; a file that passed the checks is written. Assumes nothing.
-use borrow.Author.Rules.{rules}
 use Rattle.blockfile.proofs.Checked.{untouched, readable_as, ready, written}
 use Rattle.blockfile.proofs.file.read.Goals as goal
 

@@ -1,5 +1,4 @@
 -- As reading, with a refusal of what follows the file. Assumes nothing.
-use borrow.Author.Rules.{rules}
 use Rattle.blockfile.proofs.Checked.{is_of, refused_is, untouched, readable_as, ready, written, whole_refused, whole_long, whole_all}
 use Rattle.blockfile.proofs.file.read_whole.Goals as goal
 

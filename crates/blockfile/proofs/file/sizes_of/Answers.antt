@@ -1,7 +1,6 @@
 -- Three bytes. Assumes nothing.
 use mathlib.Core.Path.{refl}
 use native.Mathlib.Omega.{arith}
-use borrow.Author.Rules.{rules}
 use Rattle.blockfile.specs.Format.{file_sizes}
 use Rattle.blockfile.proofs.file.sizes_of.Goals as goal
 

@@ -1,6 +1,5 @@
 -- The parts of a well_formed_law file are within it, and both tables are written from them. Assumes nothing.
 use native.Mathlib.Omega.{arith}
-use borrow.Author.Rules.{rules}
 use Rattle.blockfile.proofs.Parts.{well_formed_law, first_end, counted, file_cuts_law}
 use Rattle.blockfile.proofs.file.write_tables.Goals as goal
 
@@ -26,6 +25,6 @@ write_cuts-requires c =
 
 pub returns : goal.returns
 returns c = record {
-      samples_after = c.write_samples.ensures;
-      cuts_after = file_cuts_law _ _ _ c.two_at-count.ensures.value c.write_cuts.ensures;
-    }
+  samples_after = c.write_samples.ensures;
+  cuts_after = file_cuts_law _ _ _ c.two_at-count.ensures.value c.write_cuts.ensures;
+}

@@ -2,7 +2,6 @@
 use Prim.Native.Nat.{◌+◌}
 use mathlib.Core.Path.{refl}
 use native.Mathlib.Omega.{arith}
-use borrow.Author.Rules.{rules}
 use Rattle.blockfile.specs.Format.{two_at}
 use Rattle.blockfile.proofs.numbers.two_at.Goals as goal
 

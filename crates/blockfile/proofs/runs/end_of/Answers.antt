@@ -1,5 +1,4 @@
 -- The parts follow one another. Assumes nothing.
-use borrow.Author.Rules.{rules}
 use Rattle.blockfile.proofs.Parts.{ends}
 use Rattle.blockfile.proofs.runs.end_of.Goals as goal
 

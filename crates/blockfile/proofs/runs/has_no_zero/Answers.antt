@@ -1,9 +1,6 @@
 -- After i bytes, none of them zero, the rest decides. Assumes nothing.
-use Prim.Native.Nat.{◌-◌, ◌≤◌}
-use mathlib.Core.Path.{◌≡◌, refl, ◌∙◌}
+use mathlib.Core.Path.{refl, ◌∙◌}
 use native.Mathlib.Omega.{arith}
-use lib.ListN.{length, drop}
-use Rattle.blockfile.specs.Format.{no_zero}
 use Rattle.blockfile.proofs.Left.{not_zero, zero_there, none_left}
 use Rattle.blockfile.proofs.runs.has_no_zero.Goals as goal
 

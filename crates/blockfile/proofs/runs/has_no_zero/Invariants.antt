@@ -1,10 +1,8 @@
 -- After i bytes, none of them zero, the rest decides. Assumes nothing.
-use Prim.Native.Nat.{◌-◌, ◌≤◌}
-use mathlib.Core.Path.{◌≡◌, refl, ◌∙◌}
-use native.Mathlib.Omega.{arith}
+use Prim.Native.Nat.{◌≤◌}
+use mathlib.Core.Path.{◌≡◌}
 use lib.ListN.{length, drop}
 use Rattle.blockfile.specs.Format.{no_zero}
-use Rattle.blockfile.proofs.Left.{not_zero, zero_there, none_left}
 use Rattle.blockfile.proofs.runs.has_no_zero.Given as goal
 
 abbrev pub invariant-loop-i : goal.invariant-loop-i

@@ -1,7 +1,5 @@
 -- Each way out by the checks that led there. Assumes nothing.
 use native.Mathlib.Omega.{arith}
-use borrow.Author.Rules.{rules}
-use borrow.Author.Tests.{not-true, not-false}
 use Rattle.blockfile.proofs.Parts.{first_end, too_short, misfit, all_fit}
 use Rattle.blockfile.proofs.runs.is_well_formed.Goals as goal
 
@@ -23,14 +21,19 @@ returns-then-bytes-end c =
 pub returns-then-not-runs_fit : goal.returns-then-not-runs_fit
 returns-then-not-runs_fit c =
     misfit _ _ c.two_at-count.ensures.value c.end_of-end.ensures c.if-bytes-end.false
-    c.runs_fit.ensures (not-true _ c.if-not-runs_fit.true)
+    c.runs_fit.ensures c.if-not-runs_fit.true
 
 pub slice_bounds-has_no_zero-count : goal.slice_bounds-has_no_zero-count
 slice_bounds-has_no_zero-count c =
     let a = c.args in
     omega (arith, first_end a.bytes.now a.n)
 
+pub slice_bounds-has_no_zero-start : goal.slice_bounds-has_no_zero-start
+slice_bounds-has_no_zero-start c =
+    let a = c.args in
+    omega (arith, first_end a.bytes.now a.n)
+
 pub returns : goal.returns
 returns c =
     all_fit _ _ c.two_at-count.ensures.value c.end_of-end.ensures c.if-bytes-end.false
-    c.runs_fit.ensures (not-false _ c.if-not-runs_fit.false) c.has_no_zero.ensures
+    c.runs_fit.ensures c.if-not-runs_fit.false c.has_no_zero.ensures

@@ -1,5 +1,4 @@
 -- Four bytes and two. Assumes nothing.
-use borrow.Author.Rules.{rules}
 use Rattle.blockfile.specs.Format.{run_at}
 use Rattle.blockfile.proofs.runs.run_at.Goals as goal
 

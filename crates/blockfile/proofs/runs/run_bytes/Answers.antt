@@ -1,7 +1,6 @@
 -- After i runs, their bytes and those of the rest make the whole. Assumes nothing.
-use Prim.Native.Nat.{◌-◌}
 use native.Mathlib.Omega.{arith}
-use Rattle.blockfile.proofs.Fitting.{Summed, summed_first, summed_next, summed_all}
+use Rattle.blockfile.proofs.Fitting.{summed_first, summed_next, summed_all}
 use Rattle.blockfile.proofs.runs.run_bytes.Goals as goal
 
 pub loop-i-init : goal.loop-i-init
@@ -12,6 +11,6 @@ loop-i-preserved c = summed_next c.loop-i.invariant c.loop-i-test.true c.two_at-
 
 pub returns : goal.returns
 returns c = record {
-      value = summed_all c.loop-i.invariant c.loop-i-test.false;
-      upper_bound = omega arith;
-    }
+  value = summed_all c.loop-i.invariant c.loop-i-test.false;
+  upper_bound = omega arith;
+}

@@ -1,7 +1,6 @@
 -- After i runs, their bytes and those of the rest make the whole. Assumes nothing.
 use Prim.Native.Nat.{◌-◌}
-use native.Mathlib.Omega.{arith}
-use Rattle.blockfile.proofs.Fitting.{Summed, summed_first, summed_next, summed_all}
+use Rattle.blockfile.proofs.Fitting.{Summed}
 use Rattle.blockfile.proofs.runs.run_bytes.Given as goal
 
 abbrev pub invariant-loop-i : goal.invariant-loop-i

@@ -1,5 +1,4 @@
 -- Each way out by the tests that led there. Assumes nothing.
-use borrow.Author.Rules.{rules}
 use borrow.Author.Tests.{le-leb, lt-leb}
 use Rattle.blockfile.specs.Format.{run_fits}
 use Rattle.blockfile.proofs.runs.run_fits.Goals as goal

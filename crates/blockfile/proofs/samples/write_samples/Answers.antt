@@ -1,14 +1,12 @@
 -- What is left of the samples, written, gives all of them. Assumes nothing.
-use Prim.Native.Nat.{◌+◌, ◌*◌, ◌-◌, ◌≤◌}
-use mathlib.Core.Path.{◌≡◌, refl, sym, ap, ◌∙◌}
+use mathlib.Core.Path.{refl, sym, ap, ◌∙◌}
 use native.Mathlib.Omega.{arith}
 use native.Mathlib.Nat.{sub-zero}
-use lib.ListN.{length, length-set}
-use lib.Seq.{sets}
+use lib.ListN.{length-set}
 use mir.Syntax.{w16}
 use mir.ValLaws.{to_z-of_z}
 use Rattle.basics.proofs.Stores.{store_next, store_none}
-use Rattle.blockfile.specs.Format.{signed, samples_from}
+use Rattle.blockfile.specs.Format.{signed}
 use Rattle.blockfile.proofs.Left.{samples_left, no_samples_left}
 use Rattle.blockfile.proofs.samples.write_samples.Goals as goal
 

@@ -1,15 +1,9 @@
 -- What is left of the samples, written, gives all of them. Assumes nothing.
 use Prim.Native.Nat.{◌+◌, ◌*◌, ◌-◌, ◌≤◌}
-use mathlib.Core.Path.{◌≡◌, refl, sym, ap, ◌∙◌}
-use native.Mathlib.Omega.{arith}
-use native.Mathlib.Nat.{sub-zero}
-use lib.ListN.{length, length-set}
+use mathlib.Core.Path.{◌≡◌}
+use lib.ListN.{length}
 use lib.Seq.{sets}
-use mir.Syntax.{w16}
-use mir.ValLaws.{to_z-of_z}
-use Rattle.basics.proofs.Stores.{store_next, store_none}
-use Rattle.blockfile.specs.Format.{signed, samples_from}
-use Rattle.blockfile.proofs.Left.{samples_left, no_samples_left}
+use Rattle.blockfile.specs.Format.{samples_from}
 use Rattle.blockfile.proofs.samples.write_samples.Given as goal
 
 abbrev pub invariant-loop-i : goal.invariant-loop-i

@@ -6,7 +6,6 @@ use lib.ListN.{get_or}
 use Rattle.rows.specs.declared.Corner.TheVariants.{Edge}
 use Rattle.rows.specs.inner.Corners.{number_at}
 use Rattle.rows.proofs.CornerLaws.{cut_is}
-use borrow.Author.Rules.{rules}
 use Rattle.rows.proofs.corners.cut.Goals as goal
 
 pub returns : goal.returns

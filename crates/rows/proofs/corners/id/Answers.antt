@@ -1,7 +1,6 @@
 -- A point's id is its number, a cut's is N+7p+d, and both fit 32 bits. Assumes nothing.
 use native.Mathlib.Omega.{arith}
 use mathlib.Core.Path.{refl}
-use borrow.Author.Rules.{rules}
 use Rattle.rows.proofs.corners.id.Goals as goal
 
 pub overflow_cast-result : goal.overflow_cast-result

@@ -2,7 +2,6 @@
 use Rattle.rows.specs.inner.Corners.{point_at}
 use Rattle.rows.specs.declared.Corner.TheVariants.{Point}
 use mathlib.Core.Path.{ap}
-use borrow.Author.Rules.{rules}
 use Rattle.rows.proofs.corners.point.Goals as goal
 
 pub returns : goal.returns

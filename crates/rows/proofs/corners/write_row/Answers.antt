@@ -3,7 +3,6 @@ use Rattle.rows.specs.inner.Corners.{row_ids}
 use native.Mathlib.Numerals.{towards_suc}
 use lib.ListN.{length-set}
 use native.Mathlib.Omega.{arith}
-use borrow.Author.Rules.{rules}
 use Rattle.rows.proofs.corners.write_row.Goals as goal
 
 pub bounds-rows-at-2 : goal.bounds-rows-at-2

@@ -4,7 +4,6 @@ use Rattle.rows.specs.inner.Picks.{picked, chosen}
 use mathlib.Core.Path.{ap, ◌∙◌}
 use Prim.Native.Nat.{ℕ}
 use lib.Dec.{eqb}
-use borrow.Author.Rules.{rules}
 use Rattle.rows.proofs.picks.choose.Goals as goal
 
 pub returns : goal.returns

@@ -1,6 +1,5 @@
 -- Six pairs of corners, counted. Assumes nothing.
 use Rattle.rows.specs.inner.Picks.{is_even}
-use borrow.Author.Rules.{rules}
 use Rattle.rows.proofs.picks.is_even.Goals as goal
 
 pub returns : goal.returns

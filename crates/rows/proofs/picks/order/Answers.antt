@@ -1,6 +1,5 @@
 -- Plus, minus and zero corners, each ascending. Assumes nothing.
 use Rattle.rows.specs.inner.Picks.{ordered}
-use borrow.Author.Rules.{rules}
 use Rattle.rows.proofs.picks.order.Goals as goal
 
 pub returns : goal.returns

@@ -1,5 +1,4 @@
 -- The four corners, and the exchange of the last two. Assumes nothing.
-use borrow.Author.Rules.{rules}
 use Rattle.rows.proofs.stencils.corner_row.Goals as goal
 
 pub returns : goal.returns

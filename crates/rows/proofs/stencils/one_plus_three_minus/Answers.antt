@@ -1,6 +1,5 @@
 -- The line +--- of document 01's table. Assumes nothing.
 use Rattle.rows.specs.inner.Stencils.{lines}
-use borrow.Author.Rules.{rules}
 use Rattle.rows.proofs.stencils.one_plus_three_minus.Goals as goal
 
 pub returns : goal.returns

@@ -11,33 +11,33 @@ use Rattle.rows.proofs.stencils.row_count.Goals as goal
 pub returns-in-11 : goal.returns-in-11
 unfolding stencil_of row_count
 returns-in-11 c = record {
-      value = sym (ap (λ (k : ℕ). row_count (stencil_of k)) c.in-11.is);
-      upper_bound = omega arith;
-    }
+  value = sym (ap (λ (k : ℕ). row_count (stencil_of k)) c.in-11.is);
+  upper_bound = omega arith;
+}
 
 pub returns-in-12 : goal.returns-in-12
 unfolding stencil_of row_count
 returns-in-12 c = record {
-      value = sym (ap (λ (k : ℕ). row_count (stencil_of k)) c.in-12.is);
-      upper_bound = omega arith;
-    }
+  value = sym (ap (λ (k : ℕ). row_count (stencil_of k)) c.in-12.is);
+  upper_bound = omega arith;
+}
 
 pub returns-in-16 : goal.returns-in-16
 unfolding stencil_of row_count
 returns-in-16 c = record {
-      value = sym (ap (λ (k : ℕ). row_count (stencil_of k)) c.in-16.is);
-      upper_bound = omega arith;
-    }
+  value = sym (ap (λ (k : ℕ). row_count (stencil_of k)) c.in-16.is);
+  upper_bound = omega arith;
+}
 
 pub returns-in-0-to-4 : goal.returns-in-0-to-4
 unfolding stencil_of row_count
 returns-in-0-to-4 c = record {
-      value = rw (le-leb c.args.pattern 4 (omega arith)) refl;
-      upper_bound = omega arith;
-    }
+  value = rw (le-leb c.args.pattern 4 (omega arith)) refl;
+  upper_bound = omega arith;
+}
 
 pub returns-in_default : goal.returns-in_default
 returns-in_default c = record {
-      value = count_one _ c.in_default.if-pattern-lt5-own.false c.in_default-1.rest.0.0.1 c.in_default-1.rest.0.1 c.in_default-1.rest.1;
-      upper_bound = omega arith;
-    }
+  value = count_one _ (omega arith) (omega arith) (omega arith) (omega arith);
+  upper_bound = omega arith;
+}

@@ -3,8 +3,8 @@ use Rattle.rows.specs.inner.Stencils.{lines}
 use Rattle.stencil.specs.Stencil.{stencil_of}
 use borrow.Author.Tests.{le-leb, lt-leb, ne_eqb}
 use mathlib.Core.Path.{◌∙◌}
+use Prim.Native.Nat.{◌<◌}
 use native.Mathlib.Omega.{arith}
-use borrow.Author.Rules.{rules}
 use Rattle.rows.proofs.stencils.rows_for.Goals as goal
 
 pub returns-in-6 : goal.returns-in-6
@@ -38,12 +38,12 @@ returns-in-0-to-4 c = simp (le-leb c.args.pattern 4 (omega arith))
 pub returns-in_default : goal.returns-in_default
 unfolding stencil_of
 returns-in_default c =
-    let r = c.in_default-1.rest in
-    let not-sixteen = ne_eqb _ _ r.1 in
-    let not-twelve = ne_eqb _ _ r.0.1 in
-    let not-eleven = ne_eqb _ _ r.0.0.1 in
-    let not_eight = ne_eqb _ _ r.0.0.0.1 in
-    let not-seven = ne_eqb _ _ r.0.0.0.0.1 in
-    let not-six = ne_eqb _ _ r.0.0.0.0.0.1 in
+    let past_four : 4 < c.args.pattern = omega arith in
+    let not-sixteen = ne_eqb c.args.pattern 16 (omega arith) in
+    let not-twelve = ne_eqb c.args.pattern 12 (omega arith) in
+    let not-eleven = ne_eqb c.args.pattern 11 (omega arith) in
+    let not_eight = ne_eqb c.args.pattern 8 (omega arith) in
+    let not-seven = ne_eqb c.args.pattern 7 (omega arith) in
+    let not-six = ne_eqb c.args.pattern 6 (omega arith) in
     c.only_corners.ensures
-    ∙ simp (lt-leb _ _ c.in_default.if-pattern-lt5-own.false, not-sixteen, not-twelve, not-eleven, not_eight, not-seven, not-six)
+    ∙ simp (lt-leb _ _ past_four, not-sixteen, not-twelve, not-eleven, not_eight, not-seven, not-six)

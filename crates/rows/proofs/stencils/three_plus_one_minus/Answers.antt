@@ -3,7 +3,6 @@ use mathlib.Core.Bool.{not}
 use Rattle.rows.proofs.StencilLaws.{row_is}
 use mathlib.Core.List.{[], ◌∷◌}
 use Rattle.rows.specs.inner.Stencils.{lines}
-use borrow.Author.Rules.{rules}
 use Rattle.rows.proofs.stencils.three_plus_one_minus.Goals as goal
 
 pub returns : goal.returns

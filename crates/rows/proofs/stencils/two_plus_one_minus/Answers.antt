@@ -1,6 +1,5 @@
 -- The line ++-0 of document 01's table. Assumes nothing.
 use Rattle.rows.specs.inner.Stencils.{lines}
-use borrow.Author.Rules.{rules}
 use Rattle.rows.proofs.stencils.two_plus_one_minus.Goals as goal
 
 pub returns : goal.returns

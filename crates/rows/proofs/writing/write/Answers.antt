@@ -4,16 +4,17 @@ use Rattle.rows.specs.inner.Stencils.{all_ids}
 use Rattle.basics.specs.Lists.{gather}
 use mathlib.Core.Path.{refl}
 use native.Mathlib.Omega.{arith}
-use borrow.Author.Rules.{rules}
 use Rattle.rows.proofs.writing.write.Goals as goal
 
 pub write_row-requires : goal.write_row-requires
 write_row-requires c =
-    let whole = first_ready (rw c.in-One.is at c.requires) in record { n_le_most = whole.0; known_row = whole.1.0; at_in_bounds = whole.1.1 }
+    let ready = first_ready (rw c.in-One.is at c.requires) in
+    record { n_le_most = ready.0; known_row = ready.1.0; at_in_bounds = ready.1.1 }
 
 pub write_row-requires-in-Two : goal.write_row-requires-in-Two
 write_row-requires-in-Two c =
-    let whole = first_ready (rw c.in-Two.is at c.requires) in record { n_le_most = whole.0; known_row = whole.1.0; at_in_bounds = whole.1.1 }
+    let ready = first_ready (rw c.in-Two.is at c.requires) in
+    record { n_le_most = ready.0; known_row = ready.1.0; at_in_bounds = ready.1.1 }
 
 pub overflow_add-at : goal.overflow_add-at
 overflow_add-at c =
@@ -23,11 +24,13 @@ overflow_add-at c =
 pub write_row-requires-in-Two-2 : goal.write_row-requires-in-Two-2
 write_row-requires-in-Two-2 c =
     let both = rw c.in-Two.is at c.requires in
-    let whole = first_ready (rest_ready both c.write_row-in-Two.auto.0 refl) in record { n_le_most = whole.0; known_row = whole.1.0; at_in_bounds = whole.1.1 }
+    let ready = first_ready (rest_ready both c.write_row-in-Two.auto.rows refl) in
+    record { n_le_most = ready.0; known_row = ready.1.0; at_in_bounds = ready.1.1 }
 
 pub write_row-requires-in-Three : goal.write_row-requires-in-Three
 write_row-requires-in-Three c =
-    let whole = first_ready (rw c.in-Three.is at c.requires) in record { n_le_most = whole.0; known_row = whole.1.0; at_in_bounds = whole.1.1 }
+    let ready = first_ready (rw c.in-Three.is at c.requires) in
+    record { n_le_most = ready.0; known_row = ready.1.0; at_in_bounds = ready.1.1 }
 
 pub overflow_add-at-in-Three : goal.overflow_add-at-in-Three
 overflow_add-at-in-Three c =
@@ -37,7 +40,8 @@ overflow_add-at-in-Three c =
 pub write_row-requires-in-Three-2 : goal.write_row-requires-in-Three-2
 write_row-requires-in-Three-2 c =
     let all = rw c.in-Three.is at c.requires in
-    let whole = first_ready (rest_ready all c.write_row-in-Three.auto.0 refl) in record { n_le_most = whole.0; known_row = whole.1.0; at_in_bounds = whole.1.1 }
+    let ready = first_ready (rest_ready all c.write_row-in-Three.auto.rows refl) in
+    record { n_le_most = ready.0; known_row = ready.1.0; at_in_bounds = ready.1.1 }
 
 pub overflow_add-at-in-Three-2 : goal.overflow_add-at-in-Three-2
 overflow_add-at-in-Three-2 c =
@@ -47,8 +51,9 @@ overflow_add-at-in-Three-2 c =
 pub write_row-requires-in-Three-3 : goal.write_row-requires-in-Three-3
 write_row-requires-in-Three-3 c =
     let all = rw c.in-Three.is at c.requires in
-    let last-two = rest_ready all c.write_row-in-Three.auto.0 refl in
-    let whole = first_ready (rest_ready last-two c.write_row-in-Three-2.auto.0 (omega arith)) in record { n_le_most = whole.0; known_row = whole.1.0; at_in_bounds = whole.1.1 }
+    let last-two = rest_ready all c.write_row-in-Three.auto.rows refl in
+    let ready = first_ready (rest_ready last-two c.write_row-in-Three-2.auto.rows (omega arith)) in
+    record { n_le_most = ready.0; known_row = ready.1.0; at_in_bounds = ready.1.1 }
 
 pub returns-in-None : goal.returns-in-None
 unfolding all_ids gather

@@ -1,6 +1,5 @@
 -- The row of four plus corners. Assumes nothing.
 use Rattle.rows.proofs.StencilLaws.{solid_known, solid_written}
-use borrow.Author.Rules.{rules}
 use Rattle.rows.proofs.writing.write_solid.Goals as goal
 
 pub write_row-requires : goal.write_row-requires

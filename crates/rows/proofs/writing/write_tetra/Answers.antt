@@ -2,7 +2,6 @@
 use Rattle.rows.proofs.StencilLaws.{none_for, in_order, ready_for, written_for}
 use Rattle.rows.specs.inner.Picks.{sum}
 use native.Mathlib.Omega.{arith}
-use borrow.Author.Rules.{rules}
 use Rattle.rows.proofs.writing.write_tetra.Goals as goal
 
 pub overflow_add-pattern : goal.overflow_add-pattern

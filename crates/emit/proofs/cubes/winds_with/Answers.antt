@@ -4,11 +4,10 @@ use lib.Signed.{lt_z}
 use lib.IntN.{ℤ, pos}
 use mathlib.Core.Path.{ap}
 use native.Mathlib.Omega.{arith}
-use Rattle.emit.proofs.cubes.winds_with.Statement.{statement}
-use Rattle.emit.proofs.cubes.winds_with.Tie as tie
+use Rattle.emit.proofs.cubes.winds_with.Goals as goal
 
-six-volume-requires : tie.Need-six-volume-requires
-six-volume-requires c κs = (
+pub six_volume-v-requires : goal.six_volume-v-requires
+six_volume-v-requires c = (
   c.requires.0,
   (
     c.requires.1,
@@ -19,8 +18,5 @@ six-volume-requires c κs = (
   ),
 )
 
-returns : tie.Need-returns
-returns c = ap (λ (z : ℤ). lt_z (pos 0) z) (result_is c.six-volume.result c.six-volume.type-inv c.six-volume.ensures)
-
-pub winds-with-spec : {M : Type 1} → statement M
-winds-with-spec = tie.close (tie.spec six-volume-requires returns)
+pub returns : goal.returns
+returns c = ap (λ (z : ℤ). lt_z (pos 0) z) (result_is c.six_volume-v.result c.six_volume-v.type_inv c.six_volume-v.ensures)
