@@ -2,15 +2,27 @@
 // counts, or why it is refused.
 #![tactic(auto)]
 
-use libc::{STDIN_FILENO, STDOUT_FILENO};
+ghost use Rattle.std.specs.Prelude.{IfSome, OnOk, take};
+ghost use Rattle.std.specs.Io.KnownBytes.{Appends};
+ghost use Rattle.fill_file.specs.program.Printed.{output};
+
+use std::io;
+use std::io::{Read, Write};
 
 // The longest file of 5 by 5 by 5 cubes has 1194 runs of one byte, 3 + 682 + 2 + 7 * 1194 = 9045
 // bytes; one byte more shows that a file is too long. At most 113 bytes are printed: four words and
-// four numbers, each with its end of line.
-fn main() {
+// four numbers, each with its end of line. A read or a write that fails is answered by its error.
+fn run<R: Read, W: Write>(input: &mut R, printed: &mut W) -> io::Result<()>
+    ensures { OnOk result (IfSome (R.remaining input.old)
+        (λ bytes. Appends (W.contents printed.old) (W.contents printed.new) (output (take 9046 bytes)))) }
+{
     let mut bytes = [0u8; 9046];
     let mut text = [0u8; 113];
-    let n = io::read_full(STDIN_FILENO, &mut bytes);
+    let n = streams::read_first(input, &mut bytes)?;
     let k = fill_file::write_output(&bytes[..n], &mut text);
-    io::write_all(STDOUT_FILENO, &text[..k]);
+    printed.write_all(&text[..k])
+}
+
+fn main(rt: HostRuntime) -> io::Result<()> {
+    run(&mut rt.stdin(), &mut rt.stdout())
 }

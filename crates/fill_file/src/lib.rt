@@ -8,7 +8,7 @@ ghost use Rattle.lattice.specs.Counts.{Sized, points};
 ghost use Rattle.blockfile.specs.Format.{read_sizes, read_whole};
 ghost use Rattle.fill_file.specs.program.Summary.{refusal, fill_read, summary, bench_limit};
 ghost use Rattle.fill_file.specs.program.Printed.{output};
-ghost use Rattle.io.specs.Counts.{IsPrefixLen};
+ghost use Rattle.text.specs.inner.Counts.{IsPrefixLen};
 
 use blockfile::Read;
 

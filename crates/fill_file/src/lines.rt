@@ -1,6 +1,6 @@
 // What the bench program prints for an answer, as bytes at the start of a lent table.
 ghost use Rattle.std.specs.Prelude.{◌≡◌, [], ◌∷◌, ◌++◌, ◌+◌, ◌≤◌, length, take};
-ghost use Rattle.io.specs.Counts.{IsPrefixLen};
+ghost use Rattle.text.specs.inner.Counts.{IsPrefixLen};
 ghost use Rattle.text.specs.Text.{newline, ascii, decimal, line};
 ghost use Rattle.fill_file.specs.program.Printed.{count_lines, printed};
 

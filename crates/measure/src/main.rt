@@ -1,26 +1,31 @@
 // Reads the three size bytes with which a block file starts, and prints the block's measures.
 #![tactic(auto)]
 
-use libc::{STDIN_FILENO, STDOUT_FILENO};
+use std::io;
+use std::io::{Read, Write};
 
 fn wide(b: u8) -> u32 {
     b as u32
 }
 
-fn print_line(word: &[u8], n: u64) {
-    io::write_all(STDOUT_FILENO, word);
-    text::print_number(n);
-    io::write_all(STDOUT_FILENO, b"\n");
+fn print_line<W: Write>(output: &mut W, word: &[u8], n: u64) -> io::Result<()> {
+    output.write_all(word)?;
+    text::print_number(output, n)?;
+    output.write_all(b"\n")
 }
 
-fn main() {
+// A size byte that does not come counts as 0.
+fn run<R: Read, W: Write>(input: &mut R, output: &mut W) -> io::Result<()> {
     let mut sizes = [0u8; 3];
-    io::read_full(STDIN_FILENO, &mut sizes);
+    streams::read_first(input, &mut sizes)?;
     let m = yakuemi::yakuemi_measures(wide(sizes[0]), wide(sizes[1]), wide(sizes[2]));
     if m.number == 0 {
-        print_line(b"points ", m.points);
-        print_line(b"lattice ", m.tetrahedra);
-        return;
+        print_line(output, b"points ", m.points)?;
+        return print_line(output, b"lattice ", m.tetrahedra);
     }
-    io::write_all(STDOUT_FILENO, b"refused 1 0\n");
+    output.write_all(b"refused 1 0\n")
+}
+
+fn main(rt: HostRuntime) -> io::Result<()> {
+    run(&mut rt.stdin(), &mut rt.stdout())
 }

@@ -8,7 +8,7 @@ use mathlib.Core.List.{List, [], ◌++◌}
 use lib.ListN.{length, take, drop, length-drop}
 use lib.Seq.{length-take-le, take-append-add, take-append-le}
 use Rattle.basics.proofs.Part.{back, back_long}
-use Rattle.io.specs.Counts.{IsPrefixLen}
+use Rattle.text.specs.inner.Counts.{IsPrefixLen}
 use Rattle.blockfile.specs.inner.Needs.{needs, Held}
 use Rattle.blockfile.proofs.Settled.{grows}
 

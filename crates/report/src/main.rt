@@ -4,49 +4,75 @@
 
 mod fetch;
 
-ghost use Rattle.std.specs.Prelude.{◌≡◌, ◌<◌};
-ghost use Rattle.volume_report.specs.program.Report.{entry_of, counted, is_last, most_files};
+ghost use Rattle.std.specs.Prelude.{◌≡◌, ◌<◌, OnOk};
+ghost use Rattle.std.specs.Io.KnownBytes.{Appends};
+ghost use Rattle.volume_report.specs.program.Report.{entry_of, line_of, last_line, counted, is_last, most_files};
 ghost use Rattle.volume_report.specs.inner.Small.{Kept};
 
-use libc::STDOUT_FILENO;
+use fetch::Fetched;
+use std::io;
+use std::io::{Read, Write};
 use volume_report::{Tally, Turn, lines, totals, turns};
 
-// Prints the line of the file that the bytes hold.
-fn print_turn(t: Tally, bytes: &[u8]) -> Turn
-    requires kept { Kept t }
-    requires files_lt_most_files { t.files < most_files }
-    ensures tally_value { result.tally ≡ counted t (entry_of bytes.now) }
-    ensures last_value { result.last ≡ is_last (entry_of bytes.now).number }
-    ensures kept_2 { Kept result.tally }
-{
-    let mut line = [0u8; 105];
-    let r = turns::turn(t, bytes, &mut line);
-    let n = r.written;
-    io::write_all(STDOUT_FILENO, &line[..n]);
-    r
+// What a turn leaves, and whether its line was written.
+#[derive(Drop)]
+struct Printed {
+    turn: Turn,
+    outcome: io::Result<()>,
 }
 
-fn print_last(t: Tally) {
+// Prints the line of the file that the bytes hold.
+fn print_turn<W: Write>(t: Tally, bytes: &[u8], output: &mut W) -> Printed
+    requires kept { Kept t }
+    requires files_lt_most_files { t.files < most_files }
+    ensures tally_value { result.turn.tally ≡ counted t (entry_of bytes.now) }
+    ensures last_value { result.turn.last ≡ is_last (entry_of bytes.now).number }
+    ensures kept_2 { Kept result.turn.tally }
+    ensures line { OnOk result.outcome (Appends (W.contents output.old) (W.contents output.new)
+        (line_of (counted t (entry_of bytes.now)).files (entry_of bytes.now))) }
+{
+    let mut line = [0u8; 105];
+    let turn = turns::turn(t, bytes, &mut line);
+    let n = turn.written;
+    let outcome = output.write_all(&line[..n]);
+    Printed { turn, outcome }
+}
+
+fn print_last<W: Write>(t: Tally, output: &mut W) -> io::Result<()>
+    ensures { OnOk result (Appends (W.contents output.old) (W.contents output.new) (last_line t)) }
+{
     let mut line = [0u8; 105];
     let n = lines::write_last(t, &mut line);
-    io::write_all(STDOUT_FILENO, &line[..n]);
+    output.write_all(&line[..n])
 }
 
 // A turn holds one file and no byte of the next. Nothing is held where the input ends before a file
-// starts.
-fn main() {
+// starts. A read or a write that fails ends the report with its error.
+fn run<R: Read, W: Write>(input: &mut R, output: &mut W) -> io::Result<()> {
     let mut bytes = [0u8; 9045];
     let mut tally = totals::begin();
     while totals::goes_on(tally) {
-        let held = fetch::fetch(&mut bytes).held;
+        let Fetched {
+            held,
+            ended: _,
+            failure,
+        } = fetch::fetch(input, &mut bytes);
+        if let Some(e) = failure {
+            return Err(e);
+        }
         if held == 0 {
             break;
         }
-        let t = print_turn(tally, &bytes[..held]);
-        tally = t.tally;
-        if t.last {
+        let Printed { turn, outcome } = print_turn(tally, &bytes[..held], output);
+        outcome?;
+        tally = turn.tally;
+        if turn.last {
             break;
         }
     }
-    print_last(tally);
+    print_last(tally, output)
+}
+
+fn main(rt: HostRuntime) -> io::Result<()> {
+    run(&mut rt.stdin(), &mut rt.stdout())
 }

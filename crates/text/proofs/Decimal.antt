@@ -1,62 +1,65 @@
 -- The digits of a number. Assumes nothing.
---     twenty            a number of 64 bits has at most twenty
---     fewest_decimal    the fewest that hold it are its decimal digits
---     read-back         whoever reads them by tens gets the number back
+--     all_left, digit_left, last_left    they are found from the last one on
+--     read_back                          whoever reads them by tens gets the number back
 use Prim.Native.Nat.{ℕ, zero, suc, ◌+◌, ◌*◌, ◌-◌, ◌/◌, ◌%◌, ◌^◌, ◌≤◌, ◌<◌}
 use native.Mathlib.Omega.{arith}
 use native.Mathlib.Nat.{pow-suc, mul_comm}
-use mathlib.Core.Path.{◌≡◌, refl, ap, ap₂, ◌∙◌}
-use mathlib.Core.List.{List, [], ◌∷◌, ◌++◌}
+use mathlib.Core.Path.{◌≡◌, refl, sym, ap, ◌∙◌}
+use mathlib.Core.List.{List, [], ◌∷◌, ◌++◌, append_assoc, append-nil}
 use mathlib.Core.Logic.{inl, inr}
 use borrow.Author.Tests.{lt-ltb, le-ltb}
+use lib.ListN.{length, drop, set}
+use Rattle.std.proofs.lemmas.List.{drop_all, drop-set}
 use Rattle.basics.proofs.Test.{lt_or}
-use Rattle.io.specs.Digits.{last_digits, hex_digit_ascii, IsDigitCount}
 use Rattle.text.specs.Text.{zero_digit, digits_within, decimal}
-
-glyph_digit : (d : ℕ) → d < 10 → hex_digit_ascii d ≡ zero_digit + d
-glyph_digit d h = rw (lt-ltb d 10 h) refl
 
 -- 10 to the k, ten times
 ten : (k : ℕ) → 10 ^ suc k ≡ 10 * 10 ^ k
 ten k = pow-suc 10 k ∙ mul_comm (10 ^ k) 10
 
--- a number of k + 1 digits, where there is room for more
-within : (k j n : ℕ) → n < 10 ^ suc k → (0 < k → 10 ^ k ≤ n) → k ≤ j → last_digits 10 (suc k) n ≡ digits_within (suc j) n
-unfolding digits_within
-within zero j n h g l =
-    let few : n < 10 = omega (arith, h, ten 0) in
-    let last : n % 10 ≡ n = omega arith in
-    rw (lt-ltb n 10 few, last, glyph_digit n few) refl
-within (suc k) zero n h g l = absurd (omega arith)
-within (suc k) (suc j) n h g l =
-    let low = g (omega arith) in
-    let many : 10 ≤ n = omega (arith, low, ten k) in
-    let tenth : n / 10 < 10 ^ suc k = omega (arith, h, ten (suc k)) in
-    let least : 0 < k → 10 ^ k ≤ n / 10 = λ z. omega (arith, low, ten k) in
-    rw (le-ltb n 10 many)
-    (ap₂ ◌++◌ (within k j (n / 10) tenth least (omega arith)) (ap (λ (d : ℕ). d ∷ []) (glyph_digit (n % 10) (omega arith))))
+-- what is found of the digits of n once those from k on stand in a table: its first digits are those of `left`
+pub record Found (n k left : ℕ) (table : List ℕ) : Type 0 where
+  pub room : left < 10 ^ k
+  pub digits : decimal n ≡ digits_within k left ++ drop k table
 
--- the first of k + 1 digits, where they are the fewest, is not 0
-first_digit : (n k : ℕ) → IsDigitCount 10 1 n (suc k) → 0 < k → 10 ^ k ≤ n
-first_digit n k w z = let e : suc k - 1 ≡ k = omega arith in rw e at (w.2 (omega arith))
-
-pub twenty : (n k : ℕ) → n < 18446744073709551616 → IsDigitCount 10 1 n k → k ≤ 20
-twenty n zero h w = omega arith
-twenty n (suc k) h w =
-    elim (lt_or k 20) [
-      | inl l ↦ omega arith
-      | inr l ↦ absurd (omega (arith, first_digit n k w (omega arith), h, large (k - 20) k (omega arith)))
-    ]
-  where
-    large : (d k : ℕ) → k ≡ d + 20 → 100000000000000000000 ≤ 10 ^ k
-    large zero k e = rw e (omega arith)
-    large (suc d) zero e = absurd (omega arith)
-    large (suc d) (suc k) e = omega (arith, large d k (omega arith), ten k)
-
-pub fewest_decimal : (n k : ℕ) → n < 18446744073709551616 → IsDigitCount 10 1 n k → last_digits 10 k n ≡ decimal n
+pub all_left : (n : ℕ) (table : List ℕ) → n < 18446744073709551616 → length table ≡ 20 → Found n 20 n table
 unfolding decimal
-fewest_decimal n zero h w = absurd (omega (arith, w.0))
-fewest_decimal n (suc k) h w = within k 19 n w.1 (first_digit n k w) (omega (arith, twenty n (suc k) h w))
+all_left n table h l =
+    record {
+      room = omega arith;
+      digits = sym (ap (λ (xs : List ℕ). digits_within 20 n ++ xs) (drop_all 20 table (omega arith)) ∙ append-nil _);
+    }
+
+-- where two digits or more are left, there is room for them
+pub tens_left : (n k left : ℕ) (table : List ℕ) → Found n (suc k) left table → 10 ≤ left → 0 < k
+tens_left n zero left table w m = absurd (omega (arith, w.room, ten zero))
+tens_left n (suc k) left table w m = omega arith
+
+-- a digit put before those that stand there
+put_before : (k d : ℕ) (table : List ℕ) → k < length table → drop k (set table k d) ≡ d ∷ drop (suc k) table
+put_before k d table h =
+    let e : k + 1 ≡ suc k = omega arith in
+    drop-set table k d h ∙ ap (λ (m : ℕ). d ∷ drop m table) e
+
+module _ (n k left : ℕ) (table : List ℕ) (w : Found n (suc k) left table) (h : k < length table) where
+  pub last_left : left < 10 → drop k (set table k (zero_digit + left)) ≡ decimal n
+  unfolding digits_within
+  last_left l =
+      let one : digits_within (suc k) left ≡ (zero_digit + left) ∷ [] = rw (lt-ltb left 10 l) refl in
+      put_before k (zero_digit + left) table h ∙ sym (w.digits ∙ ap (λ (xs : List ℕ). xs ++ drop (suc k) table) one)
+
+  pub digit_left : 10 ≤ left → Found n k (left / 10) (set table k (zero_digit + left % 10))
+  unfolding digits_within
+  digit_left m =
+      let d = zero_digit + left % 10 in
+      let more : digits_within (suc k) left ≡ digits_within k (left / 10) ++ (d ∷ []) = rw (le-ltb left 10 m) refl in
+      record {
+        room = omega (arith, w.room, ten k);
+        digits =
+            w.digits ∙ ap (λ (xs : List ℕ). xs ++ drop (suc k) table) more
+            ∙ append_assoc (digits_within k (left / 10)) (d ∷ []) (drop (suc k) table)
+            ∙ ap (λ (xs : List ℕ). digits_within k (left / 10) ++ xs) (sym (put_before k d table h));
+      }
 
 -- digits read after a number, from the highest on
 abbrev pub read_from : ℕ → List ℕ → ℕ

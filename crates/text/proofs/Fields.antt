@@ -7,7 +7,7 @@ use mathlib.Core.Path.{◌≡◌, sym, ap, ◌∙◌}
 use mathlib.Core.List.{List, [], ◌∷◌, ◌++◌, append_assoc}
 use lib.ListN.{length}
 use lib.Seq.{append_snoc, length-take-le}
-use Rattle.io.specs.Counts.{IsPrefixLen}
+use Rattle.text.specs.inner.Counts.{IsPrefixLen}
 use Rattle.text.specs.Text.{space, newline, line}
 
 -- after the first bytes there are these fields, and nothing else

@@ -1,4 +1,3 @@
 pub mod AText
 pub mod Decimal
-pub mod Placed
 pub mod Fields

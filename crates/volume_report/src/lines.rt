@@ -1,6 +1,6 @@
 // The lines of the report.
 ghost use Rattle.std.specs.Prelude.{◌≡◌, [], ◌∷◌, ◌≤◌, length, take};
-ghost use Rattle.io.specs.Counts.{IsPrefixLen};
+ghost use Rattle.text.specs.inner.Counts.{IsPrefixLen};
 ghost use Rattle.text.specs.Text.{ascii, decimal, line};
 ghost use Rattle.volume_report.specs.program.Report.{line_of, last_line};
 

@@ -1,6 +1,6 @@
 // A turn of the report: one file, its line, and the totals with it.
 ghost use Rattle.std.specs.Prelude.{◌≡◌, ◌<◌, ◌≤◌, length, take};
-ghost use Rattle.io.specs.Counts.{IsPrefixLen};
+ghost use Rattle.text.specs.inner.Counts.{IsPrefixLen};
 ghost use Rattle.volume_report.specs.program.Report.{entry_of, line_of, counted, is_last, most_files};
 ghost use Rattle.volume_report.specs.inner.Small.{Kept};
 
