@@ -1,6 +1,6 @@
 -- The three labels as a finite type, and opposed labels: the other way round, and neither is zero. Assumes nothing.
 use mathlib.Core.Bool.{Bool, not}
-use mathlib.Core.List.{List, [], ◌∷◌}
+use mathlib.Core.List.{[], ◌∷◌}
 use lib.Dec.{T}
 use Rattle.basics.proofs.Test.{◌&◌, and_l, and_r, imp, imp_use, here, there, Member}
 use Rattle.basics.proofs.Finite.{Finite, each, each_use}
