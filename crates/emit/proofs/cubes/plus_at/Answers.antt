@@ -3,7 +3,6 @@ use Rattle.emit.proofs.WeightLaws.{handed_at, plus_one, plus_none}
 use Rattle.moving.specs.Label.{is_plus}
 use mathlib.Core.Path.{sym, ap, ◌∙◌}
 use native.Mathlib.Omega.{arith}
-use borrow.Author.Rules.{rules}
 use Rattle.emit.proofs.cubes.plus_at.Goals as goal
 
 pub returns-then-plus : goal.returns-then-plus

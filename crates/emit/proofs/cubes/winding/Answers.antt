@@ -3,7 +3,6 @@ use Rattle.emit.proofs.CubeLaws.{last_edge}
 use Rattle.stencil.specs.inner.Sign.{winds}
 use Rattle.geometry.specs.Volume.{six_volume, triple, dot, cross}
 use mathlib.Core.Path.{ap, ◌∙◌}
-use borrow.Author.Rules.{rules}
 use Rattle.emit.proofs.cubes.winding.Goals as goal
 
 pub returns-in-0 : goal.returns-in-0
