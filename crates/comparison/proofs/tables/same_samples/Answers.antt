@@ -1,6 +1,8 @@
 -- After i samples as stated the rest decides. Assumes nothing.
 use native.Mathlib.Omega.{arith}
 use mathlib.Core.Path.{refl, ap, ◌∙◌}
+use lib.IntN.{pos}
+use lib.ListN.{get_or}
 use mir.Syntax.{w16}
 use mir.ValLaws.{to_z-of_z}
 use Rattle.blockfile.specs.Format.{signed}
@@ -19,7 +21,7 @@ is_same_sample-requires c = tt
 pub returns-then-not-is_same_sample : goal.returns-then-not-is_same_sample
 returns-then-not-is_same_sample c =
     samples_differ _ _ _ c.loop-i.i (omega arith) c.is_same_sample.ensures
-    (to_z-of_z w16 _ (record { sfits = c.is_same_sample-arg-1.given }))
+    (to_z-of_z w16 (get_or c.args.samples.now c.loop-i.i (pos 0)) (record { sfits = omega arith }))
     (to_z-of_z w16 _ (record { sfits = c.signed-stated.type_inv }) ∙ c.signed-stated.ensures ∙ ap signed c.two_at.ensures.value)
     (c.if-not-is_same_sample.true)
     ∙ c.loop-i.invariant.2
@@ -29,7 +31,7 @@ loop-i-preserved c = (
   omega arith,
   c.loop-i.invariant.1,
   samples_next _ _ _ c.loop-i.i (omega arith) c.is_same_sample.ensures
-      (to_z-of_z w16 _ (record { sfits = c.is_same_sample-arg-1.given }))
+      (to_z-of_z w16 (get_or c.args.samples.now c.loop-i.i (pos 0)) (record { sfits = omega arith }))
       (to_z-of_z w16 _ (record { sfits = c.signed-stated.type_inv }) ∙ c.signed-stated.ensures ∙ ap signed c.two_at.ensures.value)
       (c.if-not-is_same_sample.false)
       ∙ c.loop-i.invariant.2,

@@ -13,7 +13,7 @@ returns-then-says_zero c = record {
 
 pub returns : goal.returns
 returns c =
-    let same = handed_at _ _ _ c.weight_of-arg-1.given in
+    let same = handed_at c.args.band c.args.samples.now c.args.p (omega arith) in
     let some = sym c.says_zero.ensures ∙ c.if-says_zero.false in
     record {
       value = weight_still _ _ _ some (c.weight_of.ensures.value ∙ ap weight same);
