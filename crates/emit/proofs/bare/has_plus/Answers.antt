@@ -1,7 +1,6 @@
 -- The samples of the line and some after it, all at once. Assumes nothing.
 use native.Mathlib.Omega.{arith}
 use Rattle.emit.proofs.BareLaws.{light_line}
-use borrow.Author.Rules.{rules}
 use Rattle.emit.proofs.bare.has_plus.Goals as goal
 
 pub returns : goal.returns

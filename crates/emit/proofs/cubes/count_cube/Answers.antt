@@ -3,7 +3,6 @@ use Rattle.rows.specs.inner.Picks.{sum}
 use Rattle.emit.specs.inner.Cubes.{cube_count}
 use Prim.Native.Nat.{◌+◌}
 use native.Mathlib.Omega.{arith}
-use borrow.Author.Rules.{rules}
 use Rattle.emit.proofs.cubes.count_cube.Goals as goal
 
 pub returns : goal.returns

@@ -1,6 +1,5 @@
 -- Six points, one by one. Assumes nothing.
 use Rattle.emit.specs.inner.Cubes.{plus_count}
-use borrow.Author.Rules.{rules}
 use Rattle.emit.proofs.cubes.count_plus.Goals as goal
 
 pub returns : goal.returns

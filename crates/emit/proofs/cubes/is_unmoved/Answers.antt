@@ -1,6 +1,5 @@
 -- Six points, one by one. Assumes nothing.
 use Rattle.emit.specs.inner.Cubes.{unmoved}
-use borrow.Author.Rules.{rules}
 use Rattle.emit.proofs.cubes.is_unmoved.Goals as goal
 
 pub returns : goal.returns

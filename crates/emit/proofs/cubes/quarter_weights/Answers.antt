@@ -2,6 +2,7 @@
 use Rattle.emit.proofs.CubeLaws.{last_edge}
 use Rattle.emit.specs.inner.Cubes.{quarter_weights}
 use mathlib.Core.Path.{refl, ap}
+use native.Mathlib.Omega.{arith}
 use Rattle.emit.proofs.cubes.quarter_weights.Goals as goal
 
 pub returns-in-0 : goal.returns-in-0
@@ -14,4 +15,4 @@ pub returns-in-2 : goal.returns-in-2
 returns-in-2 c = rw c.in-2.is refl
 
 pub returns-in_default : goal.returns-in_default
-returns-in_default c = let r = c.in_default.in_default-own.rest in ap (quarter_weights _) (last_edge _ r.0.0.1 r.0.1 r.1)
+returns-in_default c = ap (quarter_weights _) (last_edge c.args.e (omega arith) (omega arith) (omega arith))

@@ -24,7 +24,13 @@ weigh-mp-requires c = (c.requires.known_cube.mp_in, omega (arith, c.requires.kno
 pub returns : goal.returns
 unfolding cube_weights
 returns c =
+    let low = c.weigh-low.ensures in
+    let high = c.weigh-high.ensures in
+    let mm = c.weigh-mm.ensures in
+    let pm = c.weigh-pm.ensures in
+    let pp = c.weigh-pp.ensures in
+    let mp = c.weigh-mp.ensures in
     record {
-      value = λ i. record { c.weigh-low.ensures = c.weigh-low.ensures.value i; c.weigh-high.ensures = c.weigh-high.ensures.value i; c.weigh-mm.ensures = c.weigh-mm.ensures.value i; c.weigh-pm.ensures = c.weigh-pm.ensures.value i; c.weigh-pp.ensures = c.weigh-pp.ensures.value i; c.weigh-mp.ensures = c.weigh-mp.ensures.value i };
-      small_cube = record { low_small = c.weigh-low.ensures.upper_bound; high_small = c.weigh-high.ensures.upper_bound; mm_small = c.weigh-mm.ensures.upper_bound; pm_small = c.weigh-pm.ensures.upper_bound; pp_small = c.weigh-pp.ensures.upper_bound; mp_small = c.weigh-mp.ensures.upper_bound };
+      value = λ i. record { low = low.value i; high = high.value i; mm = mm.value i; pm = pm.value i; pp = pp.value i; mp = mp.value i };
+      small_cube = record { low_small = low.upper_bound; high_small = high.upper_bound; mm_small = mm.upper_bound; pm_small = pm.upper_bound; pp_small = pp.upper_bound; mp_small = mp.upper_bound };
     }

@@ -3,7 +3,6 @@ use Rattle.emit.proofs.WeightLaws.{handed_label, weight_plus, weight_minus, weig
 use Rattle.moving.specs.Label.{is_plus, is_minus}
 use mathlib.Core.Path.{sym, ap, ◌∙◌}
 use native.Mathlib.Omega.{arith}
-use borrow.Author.Rules.{rules}
 use Rattle.emit.proofs.cubes.weight_of.Goals as goal
 
 pub returns-then-is_plus : goal.returns-then-is_plus

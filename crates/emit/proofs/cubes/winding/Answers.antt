@@ -3,7 +3,7 @@ use Rattle.emit.proofs.CubeLaws.{last_edge}
 use Rattle.stencil.specs.inner.Sign.{winds}
 use Rattle.geometry.specs.Volume.{six_volume, triple, dot, cross}
 use mathlib.Core.Path.{ap, ◌∙◌}
-use borrow.Author.Rules.{rules}
+use native.Mathlib.Omega.{arith}
 use Rattle.emit.proofs.cubes.winding.Goals as goal
 
 pub returns-in-0 : goal.returns-in-0
@@ -21,5 +21,4 @@ returns-in-2 c = rw c.in-2.is c.winds_with-in-2.ensures
 pub returns-in_default : goal.returns-in_default
 unfolding six_volume triple dot cross
 returns-in_default c =
-    let r = c.in_default.in_default-own.rest in
-    c.winds_with-in_default.ensures ∙ ap winds (last_edge _ r.0.0.1 r.0.1 r.1)
+    c.winds_with-in_default.ensures ∙ ap winds (last_edge c.args.e (omega arith) (omega arith) (omega arith))

@@ -2,7 +2,6 @@
 use Rattle.basics.proofs.Written.{nothing, same_ids}
 use Rattle.emit.proofs.CubeLaws.{known_as, cube_as, cube_room, bare_cube, bare_after, solid_is, solid_after}
 use mathlib.Core.Path.{sym, ◌∙◌}
-use borrow.Author.Rules.{rules}
 use Rattle.emit.proofs.cubes.write_cube.Goals as goal
 
 pub count_plus-plus-requires : goal.count_plus-plus-requires

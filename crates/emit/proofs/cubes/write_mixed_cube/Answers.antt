@@ -1,17 +1,14 @@
 -- Into an empty table rows are only counted. Else four tetrahedra, one after the other: what is written so
 -- far is what the edges so far give. Assumes nothing.
-use Rattle.basics.proofs.Written.{same_ids, Written, none_written, more_written, fits_left, index_most, kept_long, all_written}
+use Rattle.basics.proofs.Written.{same_ids, none_written, more_written, fits_left, index_most, kept_long, all_written}
 use Rattle.emit.proofs.CubeLaws.{known_as, edge_is, edge_known, edge_small, edge_most, cube_as, cube_room, cube_counted}
 use Rattle.emit.proofs.Room.{only_counted}
 use Rattle.rows.specs.inner.Stencils.{tetra_most}
-use Rattle.emit.specs.inner.Cubes.{edge_ids}
-use Prim.Native.Nat.{◌-◌, ◌≤◌}
 use native.Mathlib.Omega.{arith}
-use borrow.Author.Rules.{rules}
 use Rattle.emit.proofs.cubes.write_mixed_cube.Goals as goal
 
 pub weigh_cube-w-requires : goal.weigh_cube-w-requires
-weigh_cube-w-requires c = (known_as c.requires.samples_len.0 c.requires.known_cube, omega (arith, c.requires.samples_len))
+weigh_cube-w-requires c = record { known_cube = known_as c.requires.samples_len.0 c.requires.known_cube; state_len = omega (arith, c.requires.samples_len) }
 
 pub count_cube-requires : goal.count_cube-requires
 count_cube-requires c = c.weigh_cube-w.ensures.small_cube
@@ -38,19 +35,17 @@ write_tetra-to-requires c =
     let i = c.loop-e in
     let w = c.weigh_cube-w in
     let h = c.loop-e-test.true in
-    let room = cube_room _ _ _ _ _ _ w.ensures.0 c.requires.room in (
-      c.requires.n_le_most,
-      (
-        edge_known a.n a.c w.result i.e c.winding-wound.ensures c.quarter-t.ensures c.quarter_weights-labels.ensures c.requires.known_cube,
-        (
-          edge_small a.n a.c w.result i.e c.winding-wound.ensures c.quarter-t.ensures c.quarter_weights-labels.ensures w.ensures.1,
-          (
-            omega (arith, index_most i.invariant.1 tetra_most 4 (λ j l. edge_most _ _ _ j) i.invariant.0, h, c.requires.cube_most_bound),
-            fits_left i.invariant.1 4 (edge_is a.n a.c w.result i.e c.winding-wound.ensures c.quarter-t.ensures c.quarter_weights-labels.ensures) h (room.fits (omega (arith, c.if-rows-eq0.false))),
-          ),
-        ),
-      ),
-    )
+    let room = cube_room _ _ _ _ _ _ w.ensures.value c.requires.room in
+    let b = c.winding-wound.ensures in
+    let t = c.quarter-t.ensures in
+    let v = c.quarter_weights-labels.ensures in
+    record {
+      n_le_most = c.requires.n_le_most;
+      known_tetra = edge_known a.n a.c w.result i.e b t v c.requires.known_cube;
+      small = edge_small a.n a.c w.result i.e b t v w.ensures.small_cube;
+      tetra_most_bound = omega (arith, index_most i.invariant.1 tetra_most 4 (λ j l. edge_most _ _ _ j) i.invariant.0, h, c.requires.cube_most_bound);
+      w_in_bounds = fits_left i.invariant.1 4 (edge_is a.n a.c w.result i.e b t v) h (room.fits (omega (arith, c.if-rows-eq0.false)));
+    }
 
 pub loop-e-preserved : goal.loop-e-preserved
 loop-e-preserved c =

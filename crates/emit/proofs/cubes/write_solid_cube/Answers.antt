@@ -1,13 +1,11 @@
 -- Four rows, one after the other, or counted into an empty table. Assumes nothing.
-use Rattle.basics.proofs.Written.{Written, none_written, more_written, index_most, kept_long, all_written}
+use Rattle.basics.proofs.Written.{none_written, more_written, index_most, kept_long, all_written}
 use Rattle.rows.specs.inner.Corners.{quarter_at}
 use Rattle.rows.proofs.StencilLaws.{solid_long}
 use Rattle.emit.proofs.CubeLaws.{edge_known, solid_quarter, solid_edge, solid_edge_most, solid_cube_long}
 use Rattle.emit.proofs.Room.{room_left, only_counted}
-use Rattle.emit.specs.inner.Cubes.{edge_ids, solid_cube}
-use Prim.Native.Nat.{◌-◌, ◌≤◌}
+use Rattle.emit.specs.inner.Cubes.{solid_cube}
 use native.Mathlib.Omega.{arith}
-use borrow.Author.Rules.{rules}
 use Rattle.emit.proofs.cubes.write_solid_cube.Goals as goal
 
 pub returns-then-rows-eq0 : goal.returns-then-rows-eq0

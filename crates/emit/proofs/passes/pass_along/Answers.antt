@@ -37,5 +37,4 @@ returns-in-1 c =
 pub returns-in_default : goal.returns-in_default
 returns-in_default c =
     let a = c.args in
-    let r = c.in_default.in_default-own.rest in
-    along_z_is a.s a.n _ c.step_by-step-in_default.ensures ∙ last_axis a.s a.n _ r.0.1 r.1
+    along_z_is a.s a.n _ c.step_by-step-in_default.ensures ∙ last_axis a.s a.n a.axis (omega arith) (omega arith)

@@ -1,7 +1,6 @@
 -- The strides add up. Assumes nothing.
 use Rattle.emit.specs.inner.Passes.{step_by}
 use mathlib.Core.Path.{refl}
-use native.Mathlib.Omega.{arith}
 use Rattle.emit.proofs.passes.step_by.Goals as goal
 
 pub returns : goal.returns

@@ -3,7 +3,6 @@ use Rattle.basics.proofs.Written.{same_ids}
 use Rattle.lattice.proofs.Bounds.{corners_small}
 use Rattle.emit.proofs.PassLaws.{line_known, line_is, line_room}
 use native.Mathlib.Omega.{arith}
-use borrow.Author.Rules.{rules}
 use Rattle.emit.proofs.passes.write_line.Goals as goal
 
 pub overflow_add-s : goal.overflow_add-s

@@ -1,12 +1,9 @@
 -- Layers, one after the other. Assumes nothing.
-use Rattle.basics.proofs.Written.{Written, none_written, more_written, index_most, kept_long, all_written}
+use Rattle.basics.proofs.Written.{none_written, more_written, index_most, kept_long, all_written}
 use Rattle.emit.proofs.PassLaws.{layer_most_law}
 use Rattle.emit.proofs.Room.{room_left}
-use Rattle.emit.specs.inner.Passes.{layer_ids, pass_ids, layer_most}
-use Rattle.moving.specs.Label.{labels}
-use Rattle.moving.specs.Reading.{label_after}
+use Rattle.emit.specs.inner.Passes.{pass_ids, layer_most}
 use mathlib.Core.Path.{refl}
-use Prim.Native.Nat.{◌-◌, ◌≤◌}
 use native.Mathlib.Omega.{arith}
 use Rattle.emit.proofs.passes.write_pass.Goals as goal
 
@@ -19,7 +16,13 @@ write_layer-to-requires c =
     let i = c.loop-z.invariant in
     let h = c.loop-z-test.true in
     let so_far = index_most i.1 layer_most _ (λ j l. layer_most_law _ _ c.requires.in_pass j l) i.0 in
-    (c.requires.in_pass, (c.requires.tables, (h, (omega (arith, so_far, c.requires.in_pass.z_few, c.requires.pass_most_bound), room_left i.1 _ refl h c.requires.room))))
+    record {
+      in_pass = c.requires.in_pass;
+      tables = c.requires.tables;
+      z_lt_mz = h;
+      layer_most_bound = omega (arith, so_far, c.requires.in_pass.z_few, c.requires.pass_most_bound);
+      room = room_left i.1 _ refl h c.requires.room;
+    }
 
 pub loop-z-preserved : goal.loop-z-preserved
 loop-z-preserved c =

@@ -1,21 +1,18 @@
 -- Nothing where no cube has a plus; else cubes, one after the other along x. Assumes nothing.
-use Rattle.basics.proofs.Written.{nothing, Written, none_written, more_written, index_most, kept_long, all_written}
+use Rattle.basics.proofs.Written.{nothing, none_written, more_written, index_most, kept_long, all_written}
 use Rattle.emit.proofs.PassLaws.{run_from, run_within, run_known, run_as, placed_is, placed_most, bare_run_ids}
 use Rattle.emit.proofs.CubeLaws.{bare_after}
 use Rattle.emit.proofs.Room.{room_left}
-use Rattle.moving.specs.Label.{labels}
-use Rattle.moving.specs.Reading.{label_after}
 use Rattle.emit.specs.inner.Cubes.{cube_most}
-use Rattle.emit.specs.inner.Passes.{placed_ids, run_ids}
-use Prim.Native.Nat.{◌-◌, ◌≤◌}
+use Rattle.emit.specs.inner.Passes.{run_ids}
 use native.Mathlib.Omega.{arith}
 use Rattle.emit.proofs.passes.write_run.Goals as goal
 
 pub is_bare_run-requires : goal.is_bare_run-requires
 is_bare_run-requires c = record {
-      samples_len_bound = omega (arith, c.requires.n_le_most, c.requires.samples_len.0);
-      known_run = run_as c.requires.samples_len.0 c.requires.known_run;
-    }
+  samples_len_bound = omega (arith, c.requires.n_le_most, c.requires.samples_len.0);
+  known_run = run_as c.requires.samples_len.0 c.requires.known_run;
+}
 
 pub returns-then-is_bare_run : goal.returns-then-is_bare_run
 returns-then-is_bare_run c =
@@ -41,19 +38,14 @@ pub write_cube-to-requires : goal.write_cube-to-requires
 unfolding run_ids
 write_cube-to-requires c =
     let i = c.loop-x.invariant in
-    let h = c.loop-x-test.true in (
-      c.requires.n_le_most,
-      (
-        c.requires.samples_len,
-        (
-          run_known c.requires.known_run h c.cube_at-c.ensures,
-          (
-            omega (arith, index_most i.1 cube_most _ (λ j l. placed_most _ _ _ _ _ j) i.0, c.requires.known_run.few, c.requires.line_most_bound),
-            room_left i.1 _ (placed_is _ _ _ _ _ _ _ c.cube_at-c.ensures) h c.requires.room,
-          ),
-        ),
-      ),
-    )
+    let h = c.loop-x-test.true in
+    record {
+      n_le_most = c.requires.n_le_most;
+      samples_len = c.requires.samples_len;
+      known_cube = run_known c.requires.known_run h c.cube_at-c.ensures;
+      cube_most_bound = omega (arith, index_most i.1 cube_most _ (λ j l. placed_most _ _ _ _ _ j) i.0, c.requires.known_run.few, c.requires.line_most_bound);
+      room = room_left i.1 _ (placed_is _ _ _ _ _ _ _ c.cube_at-c.ensures) h c.requires.room;
+    }
 
 pub loop-x-preserved : goal.loop-x-preserved
 loop-x-preserved c =
