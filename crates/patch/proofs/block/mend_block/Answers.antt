@@ -2,11 +2,9 @@
 use Prim.Native.Nat.{ℕ, ◌*◌}
 use native.Mathlib.Omega.{arith}
 use mathlib.Core.Path.{sym, ap, ◌∙◌}
-use borrow.Author.Tests.{not-true, not-false}
 use Rattle.lattice.proofs.Sized.{fits_sized}
 use Rattle.lattice.proofs.Bounds.{points_small}
 use Rattle.patch.proofs.Whole.{refuses_1, refuses_14, refuses_2, refuses_3, whole}
-use borrow.Author.Rules.{rules}
 use Rattle.patch.proofs.block.mend_block.Goals as goal
 
 pub returns-then-not-sizes_fit : goal.returns-then-not-sizes_fit

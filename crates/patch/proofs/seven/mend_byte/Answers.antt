@@ -5,7 +5,6 @@ use mathlib.Core.Path.{refl, sym, ap, ap₂, subst, ◌∙◌}
 use Rattle.mending.specs.Mend.{byte_to, rounded, held}
 use Rattle.interpolation.proofs.Sizes.{size_handed}
 use Rattle.patch.proofs.Mends.{missing, cut, blank, stray}
-use borrow.Author.Rules.{rules}
 use Rattle.patch.proofs.seven.mend_byte.Goals as goal
 
 pub offset_bounds-samples-far : goal.offset_bounds-samples-far

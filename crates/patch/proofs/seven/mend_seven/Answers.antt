@@ -1,9 +1,7 @@
 -- The loop's invariant: the bytes before d are mended. Assumes nothing.
-use Prim.Native.Nat.{◌-◌, ◌≤◌}
 use native.Mathlib.Omega.{arith}
 use mathlib.Core.Path.{refl, ◌∙◌}
-use Rattle.patch.specs.inner.Mends.{Mends, seven_due}
-use Rattle.patch.proofs.Mends.{counts, none_yet, joined, few, spelt}
+use Rattle.patch.proofs.Mends.{none_yet, joined, few, spelt}
 use Rattle.patch.proofs.seven.mend_seven.Goals as goal
 
 pub loop-d-init : goal.loop-d-init
@@ -11,7 +9,10 @@ loop-d-init c = (omega arith, none_yet refl)
 
 pub mend_byte-r-requires : goal.mend_byte-r-requires
 mend_byte-r-requires c =
-    (c.requires.ends, (c.loop-d.invariant.1.long ∙ c.requires.bytes_len, c.loop-d-test.true))
+    record {
+      ends = c.requires.ends;
+      bytes_len = (c.loop-d.invariant.1.long ∙ c.requires.bytes_len, c.loop-d-test.true);
+    }
 
 pub overflow_add-filled : goal.overflow_add-filled
 overflow_add-filled c =

@@ -1,9 +1,7 @@
 -- The loop's invariant: the bytes before d are mended. Assumes nothing.
 use Prim.Native.Nat.{◌-◌, ◌≤◌}
-use native.Mathlib.Omega.{arith}
-use mathlib.Core.Path.{refl, ◌∙◌}
 use Rattle.patch.specs.inner.Mends.{Mends, seven_due}
-use Rattle.patch.proofs.Mends.{counts, none_yet, joined, few, spelt}
+use Rattle.patch.proofs.Mends.{counts}
 use Rattle.patch.proofs.seven.mend_seven.Given as goal
 
 abbrev pub invariant-loop-d : goal.invariant-loop-d

@@ -3,7 +3,6 @@ use native.Mathlib.Omega.{arith}
 use Rattle.moving.specs.Label.{labels}
 use Rattle.patch.proofs.Mends.{fine_part}
 use Rattle.patch.proofs.Line.{line_fine}
-use borrow.Author.Rules.{rules}
 use Rattle.patch.proofs.table.mend_line.Goals as goal
 
 pub returns-then-is_quiet_line : goal.returns-then-is_quiet_line

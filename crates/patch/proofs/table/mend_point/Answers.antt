@@ -8,7 +8,6 @@ use Rattle.lines.proofs.Lines.{line_stands, line_short}
 use Rattle.lines.proofs.Sites.{along_own}
 use Rattle.checks.proofs.Walk.{room, line_point}
 use Rattle.patch.proofs.Site.{seven_mended}
-use borrow.Author.Rules.{rules}
 use Rattle.patch.proofs.table.mend_point.Goals as goal
 
 pub overflow_add-a : goal.overflow_add-a
@@ -25,6 +24,11 @@ pub overflow_add-e : goal.overflow_add-e
 overflow_add-e c =
     let r = room c.requires.tabled.sized c.requires.line refl in
     omega (arith, r.fits, r.small, c.requires.x_bound)
+
+pub slice_bounds-mend_site-end : goal.slice_bounds-mend_site-end
+slice_bounds-mend_site-end c =
+    let r = room c.requires.tabled.sized c.requires.line refl in
+    omega (arith, r.fits, c.requires.x_bound, c.requires.tabled.cuts_long)
 
 pub along-requires : goal.along-requires
 along-requires c =

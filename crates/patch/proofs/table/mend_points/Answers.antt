@@ -1,11 +1,9 @@
 -- The loop's invariant: the bytes of the points before the one of index x are mended. Assumes nothing.
-use Prim.Native.Nat.{◌+◌, ◌*◌, ◌-◌, ◌≤◌}
 use native.Mathlib.Omega.{arith}
 use mathlib.Core.Path.{refl, ◌∙◌}
 use Rattle.moving.specs.Label.{labels}
-use Rattle.checks.proofs.Walk.{Room, room}
-use Rattle.patch.specs.inner.Mends.{Mends, table_due}
-use Rattle.patch.proofs.Mends.{counts, spelt, joined, few}
+use Rattle.checks.proofs.Walk.{room}
+use Rattle.patch.proofs.Mends.{spelt, joined, few}
 use Rattle.patch.proofs.Line.{still_tabled, fine_to}
 use Rattle.patch.proofs.table.mend_points.Goals as goal
 
@@ -14,7 +12,11 @@ line_length-m-requires c = c.requires.tabled.sized
 
 pub next_fault-x-requires : goal.next_fault-x-requires
 next_fault-x-requires c =
-    (c.requires.tabled, (c.requires.line, omega arith))
+    record {
+      tabled = c.requires.tabled;
+      line = c.requires.line;
+      from_bound = omega arith;
+    }
 
 pub loop-x-init : goal.loop-x-init
 loop-x-init c =
@@ -29,7 +31,11 @@ pub mend_point-r-requires : goal.mend_point-r-requires
 mend_point-r-requires c =
     let e = c.line_length-m.ensures.value in
     let l = c.loop-x-test.true in
-    (still_tabled c.requires.tabled c.loop-x.invariant.2.long, (c.requires.line, omega arith))
+    record {
+      tabled = still_tabled c.requires.tabled c.loop-x.invariant.2.long;
+      line = c.requires.line;
+      x_bound = omega arith;
+    }
 
 pub overflow_add-filled : goal.overflow_add-filled
 overflow_add-filled c =
@@ -42,10 +48,12 @@ overflow_add-cleared c =
 pub next_fault-x-requires-in-loop-x : goal.next_fault-x-requires-in-loop-x
 next_fault-x-requires-in-loop-x c =
     let e = c.line_length-m.ensures.value in
-    let l = c.loop-x-test.true in (
-      still_tabled c.requires.tabled (c.mend_point-r.ensures.long ∙ c.loop-x.invariant.2.long),
-      (c.requires.line, omega arith),
-    )
+    let l = c.loop-x-test.true in
+    record {
+      tabled = still_tabled c.requires.tabled (c.mend_point-r.ensures.long ∙ c.loop-x.invariant.2.long);
+      line = c.requires.line;
+      from_bound = omega arith;
+    }
 
 pub loop-x-smaller : goal.loop-x-smaller
 loop-x-smaller c =

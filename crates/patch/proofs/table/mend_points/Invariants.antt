@@ -1,12 +1,9 @@
 -- The loop's invariant: the bytes of the points before the one of index x are mended. Assumes nothing.
 use Prim.Native.Nat.{◌+◌, ◌*◌, ◌-◌, ◌≤◌}
-use native.Mathlib.Omega.{arith}
-use mathlib.Core.Path.{refl, ◌∙◌}
 use Rattle.moving.specs.Label.{labels}
-use Rattle.checks.proofs.Walk.{Room, room}
+use Rattle.checks.proofs.Walk.{Room}
 use Rattle.patch.specs.inner.Mends.{Mends, table_due}
-use Rattle.patch.proofs.Mends.{counts, spelt, joined, few}
-use Rattle.patch.proofs.Line.{still_tabled, fine_to}
+use Rattle.patch.proofs.Mends.{counts}
 use Rattle.patch.proofs.table.mend_points.Given as goal
 
 abbrev pub invariant-loop-x : goal.invariant-loop-x

@@ -1,6 +1,5 @@
 -- Which edges cross, and where they lead. Assumes nothing.
 use Rattle.patch.proofs.Site.{site_ends, site_mended}
-use borrow.Author.Rules.{rules}
 use Rattle.patch.proofs.table.mend_site.Goals as goal
 
 pub mend_seven-requires : goal.mend_seven-requires

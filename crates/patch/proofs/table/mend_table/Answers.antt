@@ -1,14 +1,10 @@
 -- The loop's invariant: q starts a line, and the bytes before it are mended. Assumes nothing.
-use Prim.Native.Nat.{◌*◌, ◌-◌}
 use native.Mathlib.Omega.{arith}
 use mathlib.Core.Path.{refl, ◌∙◌}
-use Rattle.moving.specs.Label.{labels}
-use Rattle.lines.specs.inner.Lines.{Line}
 use Rattle.lines.proofs.Points.{points_some}
 use Rattle.lines.proofs.Lines.{line_self, line_fits}
 use Rattle.checks.proofs.Walk.{first_line, room, next_own}
-use Rattle.patch.specs.inner.Mends.{Mends, table_due}
-use Rattle.patch.proofs.Mends.{counts, none_yet, spelt, joined, few}
+use Rattle.patch.proofs.Mends.{none_yet, spelt, joined, few}
 use Rattle.patch.proofs.Line.{still_tabled}
 use Rattle.patch.proofs.table.mend_table.Goals as goal
 
@@ -16,7 +12,11 @@ pub point_count-n-requires : goal.point_count-n-requires
 point_count-n-requires c = c.requires.sized
 
 pub locate-q-requires : goal.locate-q-requires
-locate-q-requires c = let h = c.requires.sized in (h, points_some _ h)
+locate-q-requires c = let h = c.requires.sized in
+    record {
+      sized = h;
+      p_bound = points_some _ h;
+    }
 
 pub loop-s-init : goal.loop-s-init
 loop-s-init c =
@@ -25,7 +25,10 @@ loop-s-init c =
 
 pub mend_line-r-requires : goal.mend_line-r-requires
 mend_line-r-requires c =
-    (still_tabled c.requires c.loop-s.invariant.1.long, c.loop-s.invariant.0)
+    record {
+      tabled = still_tabled c.requires c.loop-s.invariant.1.long;
+      line = c.loop-s.invariant.0;
+    }
 
 pub overflow_add-filled : goal.overflow_add-filled
 overflow_add-filled c =
@@ -59,7 +62,11 @@ returns-then-n-end c =
 pub next_line-q-requires : goal.next_line-q-requires
 next_line-q-requires c =
     let e = c.line_length.ensures.value in
-    (c.requires.sized, (c.loop-s.invariant.0, omega arith))
+    record {
+      sized = c.requires.sized;
+      line = c.loop-s.invariant.0;
+      along_x_bound = omega arith;
+    }
 
 pub loop-s-smaller : goal.loop-s-smaller
 loop-s-smaller c =

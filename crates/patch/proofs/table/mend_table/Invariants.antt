@@ -1,15 +1,9 @@
 -- The loop's invariant: q starts a line, and the bytes before it are mended. Assumes nothing.
 use Prim.Native.Nat.{◌*◌, ◌-◌}
-use native.Mathlib.Omega.{arith}
-use mathlib.Core.Path.{refl, ◌∙◌}
 use Rattle.moving.specs.Label.{labels}
 use Rattle.lines.specs.inner.Lines.{Line}
-use Rattle.lines.proofs.Points.{points_some}
-use Rattle.lines.proofs.Lines.{line_self, line_fits}
-use Rattle.checks.proofs.Walk.{first_line, room, next_own}
 use Rattle.patch.specs.inner.Mends.{Mends, table_due}
-use Rattle.patch.proofs.Mends.{counts, none_yet, spelt, joined, few}
-use Rattle.patch.proofs.Line.{still_tabled}
+use Rattle.patch.proofs.Mends.{counts}
 use Rattle.patch.proofs.table.mend_table.Given as goal
 
 abbrev pub invariant-loop-s : goal.invariant-loop-s

@@ -4,7 +4,6 @@ use Rattle.moving.specs.Label.{labels}
 use Rattle.checks.proofs.Faults.{fine_of, gap_of, stray_of}
 use Rattle.checks.proofs.Search.{upto}
 use Rattle.patch.proofs.Line.{in_line_law, to_fault}
-use borrow.Author.Rules.{rules}
 use Rattle.patch.proofs.table.next_fault.Goals as goal
 
 pub overflow_sub-result : goal.overflow_sub-result
