@@ -18,8 +18,7 @@ use lattice::Sizes;
 // crates/moving/proofs/Choice.antt); a point in the band never moves (`in_band_rests`,
 // crates/moving/proofs/Band.antt); what each state byte says of its point, and which points lie on the
 // skin (`told`, `skin_told`, crates/filling/proofs/Told.antt).
-#[unsafe(no_mangle)]
-pub extern "C" fn yakuemi_fill(
+pub fn yakuemi_fill(
     nx: u32,
     ny: u32,
     nz: u32,

@@ -14,8 +14,7 @@ pub struct Measures {
 }
 
 // The count of lattice points and of lattice tetrahedra of a block of nx by ny by nz cubes.
-#[unsafe(no_mangle)]
-pub extern "C" fn yakuemi_measures(nx: u32, ny: u32, nz: u32) -> Measures
+pub fn yakuemi_measures(nx: u32, ny: u32, nz: u32) -> Measures
     ensures { result ≡ measure (sizes nx ny nz) }
 {
     let s = Sizes {

@@ -15,8 +15,7 @@ use mending::Mended;
 // edge of the exact quotient, or under one where it was held (`near`); filling then answers neither 6 nor 7, whatever
 // else is lent (`unrefused`); the counts are those of the bytes that filling would refuse
 // (`counted`); a second run changes nothing and answers two zeros (`again`).
-#[unsafe(no_mangle)]
-pub extern "C" fn yakuemi_mend(
+pub fn yakuemi_mend(
     nx: u32,
     ny: u32,
     nz: u32,

@@ -13,8 +13,7 @@ use numbering::Numbered;
 // are exactly the ids in use (`in_use`); putting each node's id back yields the old rows (`put_back`);
 // each node's place is the place call's (`placed_as_called`); a refusal changes neither table
 // (`refusal_leaves`).
-#[unsafe(no_mangle)]
-pub extern "C" fn yakuemi_nodes(
+pub fn yakuemi_nodes(
     nx: u32,
     ny: u32,
     nz: u32,

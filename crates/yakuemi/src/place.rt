@@ -8,15 +8,7 @@ use lattice::Sizes;
 
 // Where the corner with an id stands, in steps, 512 to a cube's side: answered from the sizes, the cut
 // table and the state table that filling left.
-#[unsafe(no_mangle)]
-pub extern "C" fn yakuemi_place(
-    nx: u32,
-    ny: u32,
-    nz: u32,
-    cuts: &[u8],
-    state: &[u8],
-    id: u32,
-) -> Placed
+pub fn yakuemi_place(nx: u32, ny: u32, nz: u32, cuts: &[u8], state: &[u8], id: u32) -> Placed
     ensures { result ≡ locate (sizes nx ny nz) cuts.now state.now id }
 {
     let s = Sizes {

@@ -12,8 +12,7 @@ use metric::PlacedMm;
 // Theorems (crates/metric/proofs/Theorems.antt): where the unit is a power of two each product is
 // exact (`exact`); at every unit it is within one part in 2^53 of the exact one (`near`); no
 // coordinate of any answer is a NaN or an infinity (`finite_always`).
-#[unsafe(no_mangle)]
-pub extern "C" fn yakuemi_place_mm(
+pub fn yakuemi_place_mm(
     nx: u32,
     ny: u32,
     nz: u32,

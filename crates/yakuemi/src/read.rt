@@ -16,8 +16,7 @@ pub struct ReadFile {
 
 // Reads a block file from the start of the bytes into the first N samples and the first 7N cut
 // bytes of the lent tables. A refusal writes nothing.
-#[unsafe(no_mangle)]
-pub extern "C" fn yakuemi_read(bytes: &[u8], samples: &mut [i16], cuts: &mut [u8]) -> ReadFile
+pub fn yakuemi_read(bytes: &[u8], samples: &mut [i16], cuts: &mut [u8]) -> ReadFile
     ensures answer { result ≡ answer_of (read_file bytes.now samples.old cuts.old).answer }
     ensures samples { samples.new ≡ (read_file bytes.now samples.old cuts.old).samples }
     ensures cuts { cuts.new ≡ (read_file bytes.now samples.old cuts.old).cuts }
