@@ -4,9 +4,10 @@
 
 mod fetch;
 
-ghost use Rattle.std.specs.Prelude.{◌≡◌, ◌<◌, OnOk};
+ghost use Rattle.std.specs.Prelude.{◌≡◌, ◌<◌, OnOk, IfSome};
 ghost use Rattle.std.specs.Io.KnownBytes.{Appends};
-ghost use Rattle.volume_report.specs.program.Report.{entry_of, line_of, last_line, counted, is_last, most_files};
+ghost use Rattle.std.specs.List.{concat};
+ghost use Rattle.volume_report.specs.program.Report.{entry_of, line_of, last_line, report, counted, is_last, most_files};
 ghost use Rattle.volume_report.specs.inner.Small.{Kept};
 
 use fetch::Fetched;
@@ -48,7 +49,10 @@ fn print_last<W: Write>(t: Tally, output: &mut W) -> io::Result<()>
 
 // A turn holds one file and no byte of the next. Nothing is held where the input ends before a file
 // starts. A read or a write that fails ends the report with its error.
-fn run<R: Read, W: Write>(input: &mut R, output: &mut W) -> io::Result<()> {
+fn run<R: Read, W: Write>(input: &mut R, output: &mut W) -> io::Result<()>
+    ensures { OnOk result (IfSome (R.remaining input.old)
+        (λ bytes. Appends (W.contents output.old) (W.contents output.new) (concat (report bytes)))) }
+{
     let mut bytes = [0u8; 9045];
     let mut tally = totals::begin();
     while totals::goes_on(tally) {
@@ -61,13 +65,13 @@ fn run<R: Read, W: Write>(input: &mut R, output: &mut W) -> io::Result<()> {
             return Err(e);
         }
         if held == 0 {
-            break;
+            return print_last(tally, output);
         }
         let Printed { turn, outcome } = print_turn(tally, &bytes[..held], output);
         outcome?;
         tally = turn.tally;
         if turn.last {
-            break;
+            return print_last(tally, output);
         }
     }
     print_last(tally, output)
