@@ -2,7 +2,6 @@
 use native.Mathlib.Omega.{arith}
 use mathlib.Core.Path.{sym}
 use lib.Seq.{length-take-le}
-use borrow.Author.Rules.{rules}
 use Rattle.lattice.proofs.Bounds.{points_small}
 use Rattle.fill_file.proofs.Counted.{measured_points, counted_refused, counted_filled, filled_is}
 use Rattle.fill_file.proofs.fill_read.Goals as goal

@@ -1,5 +1,4 @@
 -- The reader's refusals, or filling's answer for the block that was read. Assumes nothing.
-use borrow.Author.Rules.{rules}
 use Rattle.blockfile.proofs.Checked.{whole_readable, whole_samples, whole_cuts}
 use Rattle.fill_file.proofs.Outcome.{file_refused, file_filled}
 use Rattle.fill_file.proofs.summarize.Goals as goal
@@ -24,7 +23,8 @@ fill_read-requires c =
 
 pub returns : goal.returns
 returns c =
-    let w = file_filled _ _ _ _ _ c.read_whole-r.ensures.value c.if-r-ne0.false c.read_whole-r.ensures.samples_after c.read_whole-r.ensures.cuts_after c.fill_read.ensures in
+    let w = file_filled _ _ _ _ _ c.read_whole-r.ensures.value c.if-r-ne0.false c.read_whole-r.ensures.samples_after c.read_whole-r.ensures.cuts_after
+    (c.fill_read.ensures.value, (c.fill_read.ensures.state_after, c.fill_read.ensures.rows_after)) in
     record {
       answer = w.0;
       samples = c.read_whole-r.ensures.samples_after;

@@ -1,7 +1,6 @@
 -- The text of the answer, with the tables that the program has. Assumes nothing.
 use mathlib.Core.Path.{ap, ◌∙◌}
 use Rattle.fill_file.specs.program.Printed.{printed, output}
-use borrow.Author.Rules.{rules}
 use Rattle.fill_file.proofs.write_output.Goals as goal
 
 pub returns : goal.returns

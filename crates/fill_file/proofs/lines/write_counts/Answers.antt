@@ -1,7 +1,6 @@
 -- Four lines, one after the other. Assumes nothing.
 use native.Mathlib.Omega.{arith}
 use Rattle.fill_file.proofs.Texts.{four_lines}
-use borrow.Author.Rules.{rules}
 use Rattle.fill_file.proofs.lines.write_counts.Goals as goal
 
 pub returns : goal.returns
