@@ -10,7 +10,7 @@ use lib.Signed.{lt_z}
 use lib.ListN.{get_or}
 use lib.Dec.{T, ltb→lt}
 use borrow.Author.Tests.{leb-true, leb-false}
-use Rattle.basics.specs.Choice.{if◌then◌else◌}
+use Rattle.std.specs.Prelude.{if◌then◌else◌}
 use Rattle.basics.proofs.Test.{and_l, and_r, every_use, Member, here, there}
 use Rattle.basics.proofs.Gather.{gather_part}
 use Rattle.lattice.specs.declared.Near.TheVariants.{At}

@@ -9,7 +9,7 @@ use mathlib.Core.Bool.{Bool, true, false}
 use mathlib.Core.List.{List, [], ◌∷◌}
 use lib.Dec.{T}
 use lib.ListN.{length}
-use Rattle.basics.specs.Choice.{if◌then◌else◌}
+use Rattle.std.specs.Prelude.{if◌then◌else◌}
 use Rattle.basics.specs.Lists.{gather}
 use Rattle.basics.proofs.Test.{Member, here, there, true_T}
 use Rattle.basics.proofs.Gather.{NoRepeats, empty, more, gather_i, gather_part}

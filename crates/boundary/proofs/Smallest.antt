@@ -9,7 +9,7 @@ use mathlib.Core.List.{List, [], ◌∷◌, ◌++◌}
 use lib.Dec.{T, le→leb, ltb→lt}
 use lib.IntN.{ℤ, pos, negsuc}
 use lib.Signed.{lt_z, le_z, ◌<ℤ◌, lt_z_yes, le_z_yes, lt_z_no, <ℤ-≤ℤ_trans, <ℤ_irrefl}
-use Rattle.basics.specs.Choice.{if◌then◌else◌}
+use Rattle.std.specs.Prelude.{if◌then◌else◌}
 use Rattle.basics.proofs.Test.{Member, here, there, true_T, F-false}
 use Rattle.boundary.specs.Sum.{least_from, smallest}
 

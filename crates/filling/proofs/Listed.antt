@@ -1,7 +1,6 @@
 -- Filling and the place call are what their lists of refusals say. Assumes nothing.
-use Rattle.std.specs.Prelude.{ℕ, ◌*◌, Bool, true, false, not, List, length, eqb, ◌≡◌}
+use Rattle.std.specs.Prelude.{ℕ, ◌*◌, Bool, true, false, not, List, length, eqb, ◌≡◌, if◌then◌else◌}
 use mathlib.Core.Path.{refl, ap}
-use Rattle.basics.specs.Choice.{if◌then◌else◌}
 use Rattle.lattice.specs.declared.Sizes.{Sizes}
 use Rattle.lattice.specs.Counts.{sizes_fit, points}
 use Rattle.moving.specs.Block.{Block, reading_of}

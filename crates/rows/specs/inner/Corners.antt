@@ -1,6 +1,5 @@
 -- Corners of rows as the code holds them: their ids, and which corner of a tetrahedron they are.
-use Rattle.std.specs.Prelude.{ℕ, zero, suc, ◌+◌, ◌*◌, ◌<◌, Bool, List, [], ◌∷◌, ltb}
-use Rattle.basics.specs.Choice.{if◌then◌else◌}
+use Rattle.std.specs.Prelude.{ℕ, zero, suc, ◌+◌, ◌*◌, ◌<◌, Bool, List, [], ◌∷◌, ltb, if◌then◌else◌}
 use Rattle.lattice.specs.Axis.{Axis, along_x, along_y, along_z}
 use Rattle.lattice.specs.Counts.{largest}
 use Rattle.lattice.specs.Direction.{direction_of}
