@@ -2,7 +2,7 @@
 use Prim.Native.Nat.{ℕ, zero, suc, ◌+◌, ◌*◌, ◌<◌}
 use native.Mathlib.Omega.{arith}
 use mathlib.Core.Path.{◌≡◌, refl, sym, ap, ap₂, ◌∙◌}
-use mathlib.Core.Bool.{Bool, true, false, ◌&&◌}
+use mathlib.Core.Bool.{Bool, true, false}
 use mathlib.Core.List.{List, [], ◌∷◌, ◌++◌}
 use lib.IntN.{ℤ, pos, negsuc}
 use lib.ListN.{length, take, drop, replicate, take-append-drop}
@@ -17,7 +17,7 @@ use Rattle.blockfile.specs.declared.Read.{Read}
 use Rattle.blockfile.specs.Format.{four_at, file_sizes, samples_from}
 use Rattle.replay.specs.declared.Lengths.{Lengths}
 use Rattle.replay.specs.declared.Filed.{Filed}
-use Rattle.comparison.specs.program.Same.{same, untouched, ids_from, same_sample, same_samples, same_answer}
+use Rattle.comparison.specs.program.Same.{same, ids_from, same_sample, same_samples, same_answer}
 use Rattle.replay.specs.program.Fills.{
   lengths_of,
   answer_of,

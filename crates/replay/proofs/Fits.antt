@@ -1,8 +1,8 @@
 -- What a record that fits is like. Assumes nothing.
 use Prim.Native.Nat.{ℕ, ◌+◌, ◌*◌, ◌≤◌}
 use mathlib.Core.Path.{◌≡◌}
-use mathlib.Core.Bool.{true, ◌&&◌}
-use lib.Dec.{T, eqb, leb, eqb→eq, leb→le}
+use mathlib.Core.Bool.{true}
+use lib.Dec.{eqb, leb, eqb→eq, leb→le}
 use borrow.Author.Tests.{eq-eqb, le-leb}
 use Rattle.basics.proofs.Test.{&&-l, &&-r, true_T}
 use Rattle.lattice.specs.Counts.{most_points}

@@ -1,6 +1,5 @@
 -- Four numbers of the head. Assumes nothing.
 use Rattle.replay.specs.program.Files.{filed_of}
-use borrow.Author.Rules.{rules}
 use Rattle.replay.proofs.files.filed_of.Goals as goal
 
 pub returns : goal.returns

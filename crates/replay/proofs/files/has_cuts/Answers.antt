@@ -3,7 +3,6 @@ use Prim.Native.Nat.{◌+◌, ◌*◌}
 use mathlib.Core.Path.{ap, ◌∙◌}
 use Rattle.comparison.specs.program.Same.{same}
 use Rattle.replay.proofs.Composed.{part_is}
-use borrow.Author.Rules.{rules}
 use Rattle.replay.proofs.files.has_cuts.Goals as goal
 
 pub returns : goal.returns

@@ -3,7 +3,6 @@ use mathlib.Core.Path.{refl}
 use borrow.Author.Tests.{eq-eqb, ne_eqb, le-leb, lt-leb}
 use Rattle.basics.proofs.Test.{first_fails, second_fails, all_three}
 use Rattle.replay.proofs.Reading.{fitting_is}
-use borrow.Author.Rules.{rules}
 use Rattle.replay.proofs.files.is_fitting.Goals as goal
 
 pub returns-then-body-f : goal.returns-then-body-f

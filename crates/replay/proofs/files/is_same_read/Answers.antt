@@ -3,7 +3,6 @@ use mathlib.Core.Path.{refl}
 use borrow.Author.Tests.{eq-eqb, ne_eqb}
 use Rattle.basics.proofs.Test.{first_fails, second_fails, all_three}
 use Rattle.replay.proofs.Reading.{answers_are}
-use borrow.Author.Rules.{rules}
 use Rattle.replay.proofs.files.is_same_read.Goals as goal
 
 pub returns-then-a-b : goal.returns-then-a-b

@@ -3,7 +3,6 @@ use mathlib.Core.Path.{sym, ap, ◌∙◌}
 use lib.Seq.{length-take-le}
 use Rattle.blockfile.specs.Format.{Outcome}
 use Rattle.replay.proofs.Reading.{reread_is}
-use borrow.Author.Rules.{rules}
 use Rattle.replay.proofs.files.read_again.Goals as goal
 
 pub slice_bounds-read-end : goal.slice_bounds-read-end

@@ -1,6 +1,5 @@
 -- Five numbers of the head. Assumes nothing.
 use Rattle.replay.specs.program.Files.{stated_read}
-use borrow.Author.Rules.{rules}
 use Rattle.replay.proofs.files.stated_read.Goals as goal
 
 pub returns : goal.returns

@@ -1,10 +1,8 @@
 -- The answer, then the tables. Assumes nothing.
 use mathlib.Core.Path.{ap₂, ◌∙◌}
-use borrow.Author.Tests.{not-true, not-false}
 use Rattle.comparison.specs.program.Same.{same_answer}
 use Rattle.replay.specs.program.Fills.{stated_tables}
 use Rattle.replay.proofs.Composed.{answer_differs, tables_decide}
-use borrow.Author.Rules.{rules}
 use Rattle.replay.proofs.fills.is_agreed.Goals as goal
 
 pub returns-then-not-is_same_answer : goal.returns-then-not-is_same_answer

@@ -3,7 +3,6 @@ use mathlib.Core.Path.{ap, ◌∙◌}
 use Rattle.moving.specs.Block.{Block}
 use Rattle.filling.specs.Fill.{Outcome, fill}
 use Rattle.replay.proofs.Composed.{block_is}
-use borrow.Author.Rules.{rules}
 use Rattle.replay.proofs.fills.refill.Goals as goal
 
 pub returns : goal.returns

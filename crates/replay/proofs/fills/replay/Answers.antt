@@ -2,7 +2,6 @@
 use mathlib.Core.Path.{ap, ◌∙◌}
 use Rattle.filling.specs.Fill.{Outcome}
 use Rattle.replay.proofs.Composed.{replay_is}
-use borrow.Author.Rules.{rules}
 use Rattle.replay.proofs.fills.replay.Goals as goal
 
 pub returns : goal.returns

@@ -1,6 +1,5 @@
 -- Four numbers of the head. Assumes nothing.
 use Rattle.replay.specs.program.Fills.{answer_of}
-use borrow.Author.Rules.{rules}
 use Rattle.replay.proofs.heads.answer_of.Goals as goal
 
 pub returns : goal.returns

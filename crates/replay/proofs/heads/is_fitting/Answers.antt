@@ -2,7 +2,6 @@
 use borrow.Author.Tests.{eq-eqb, ne_eqb, le-leb, lt-leb}
 use Rattle.replay.specs.program.Fills.{fits}
 use Rattle.replay.proofs.Fits.{last_fits}
-use borrow.Author.Rules.{rules}
 use Rattle.replay.proofs.heads.is_fitting.Goals as goal
 
 pub returns-then-body-l : goal.returns-then-body-l

@@ -1,6 +1,5 @@
 -- Five numbers of the head. Assumes nothing.
 use Rattle.replay.specs.program.Fills.{lengths_of}
-use borrow.Author.Rules.{rules}
 use Rattle.replay.proofs.heads.lengths_of.Goals as goal
 
 pub returns : goal.returns

@@ -1,6 +1,5 @@
 -- The head, then the questions. Assumes nothing.
 use Rattle.replay.proofs.Asking.{no_questions, questions_decide}
-use borrow.Author.Rules.{rules}
 use Rattle.replay.proofs.questions.agrees.Goals as goal
 
 pub returns-then-body-first : goal.returns-then-body-first

@@ -1,11 +1,9 @@
 -- After i answers as stated the rest decides. Assumes nothing.
-use Prim.Native.Nat.{◌-◌, ◌≤◌}
-use native.Mathlib.Omega.{arith}
-use mathlib.Core.Path.{◌≡◌, refl, ◌∙◌}
-use borrow.Author.Tests.{not-true, not-false}
+use Prim.Native.Nat.{◌≤◌}
+use mathlib.Core.Path.{◌≡◌}
 use Rattle.blockfile.specs.Format.{file_sizes}
 use Rattle.replay.specs.program.Questions.{all_answered}
-use Rattle.replay.proofs.Asking.{answers_left, all_left, right_answer, wrong_answer, none_left}
+use Rattle.replay.proofs.Asking.{answers_left}
 use Rattle.replay.proofs.questions.are_answered.Given as goal
 
 abbrev pub invariant-loop-i : goal.invariant-loop-i

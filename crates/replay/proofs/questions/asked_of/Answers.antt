@@ -1,6 +1,5 @@
 -- Four numbers of the head. Assumes nothing.
 use Rattle.replay.specs.program.Questions.{asked_of}
-use borrow.Author.Rules.{rules}
 use Rattle.replay.proofs.questions.asked_of.Goals as goal
 
 pub returns : goal.returns

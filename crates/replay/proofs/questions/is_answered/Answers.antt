@@ -1,6 +1,5 @@
 -- The question of the record, with its tables. Assumes nothing.
 use Rattle.replay.proofs.Asking.{answer_is}
-use borrow.Author.Rules.{rules}
 use Rattle.replay.proofs.questions.is_answered.Goals as goal
 
 pub returns : goal.returns
