@@ -1,6 +1,6 @@
 -- The calls agree: with the state table that filling leaves, the place call believes every point, and answers every point and every cut
 -- between ends with state byte 0 with the very place that the rows are measured by. Whatever moves reached the state table. Assumes nothing.
-use Prim.Native.Nat.{ℕ, ◌+◌, ◌*◌, ◌-◌, ◌/◌, ◌%◌, ◌<◌}
+use Prim.Native.Nat.{ℕ, ◌*◌, ◌-◌, ◌/◌, ◌%◌, ◌<◌}
 use native.Mathlib.Omega.{arith}
 use mathlib.Core.Path.{◌≡◌, refl}
 use mathlib.Core.Bool.{true}

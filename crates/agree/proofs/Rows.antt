@@ -1,17 +1,17 @@
 -- The calls agree on every corner of every row: the place call answers each id of a filled block's rows with 0 and the place that the
 -- row is measured by. Assumes nothing.
-use Prim.Native.Nat.{ℕ, ◌+◌, ◌-◌, ◌/◌, ◌%◌, ◌<◌}
+use Prim.Native.Nat.{ℕ, ◌+◌, ◌<◌}
 use native.Mathlib.Omega.{arith}
 use mathlib.Core.Path.{◌≡◌, refl, sym, ap, ◌∙◌}
-use mathlib.Core.Bool.{Bool, true, false, not}
-use mathlib.Core.List.{List, ◌∷◌, map}
+use mathlib.Core.Bool.{Bool, true, false}
+use mathlib.Core.List.{List, [], ◌∷◌, map}
 use lib.IntN.{pos}
 use lib.Signed.{lt_z}
 use lib.ListN.{get_or}
 use lib.Dec.{T, ltb→lt}
-use borrow.Author.Tests.{eq-eqb, leb-true, leb-false}
-use Rattle.basics.specs.Choice.{if◌then◌else◌}
-use Rattle.basics.proofs.Test.{and_l, and_r, every, every_use, T_true, Member, here, there}
+use borrow.Author.Tests.{leb-true, leb-false}
+use Rattle.std.specs.Prelude.{if◌then◌else◌}
+use Rattle.basics.proofs.Test.{and_l, and_r, every_use, Member, here, there}
 use Rattle.basics.proofs.Gather.{gather_part}
 use Rattle.lattice.specs.declared.Near.TheVariants.{At}
 use Rattle.lattice.specs.Counts.{points}
@@ -127,6 +127,7 @@ module _ (m : Reading) (asked : Asked m) (fits : Fits m) (codes : List ℕ) (rea
 
 -- what a mapped list holds
 mapped : {A B : Type 0} (f : A → B) (l : List A) {y : B} → Member y (map f l) → (x : A) × Member x l × (y ≡ f x)
+mapped f [] m = elim m [ ]
 mapped f (x ∷ l) here = (x, here, refl)
 mapped f (x ∷ l) (there m) = let (z, n, e) = mapped f l m in (z, there n, e)
 

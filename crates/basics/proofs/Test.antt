@@ -5,7 +5,6 @@ use mathlib.Core.Bool.{Bool, true, false, not, ◌||◌, ◌&&◌, beq}
 use mathlib.Core.List.{List, [], ◌∷◌}
 use Prim.Native.Nat.{ℕ, zero, suc, ◌+◌, ◌≤◌, ◌<◌}
 use native.Mathlib.Omega.{arith}
-use native.Mathlib.Nat.{not-suc-le-zero}
 use lib.Dec.{T, eqb, eqb_refl, eqb→eq}
 use Rattle.basics.specs.Lists.{from, below}
 

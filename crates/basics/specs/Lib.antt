@@ -1,4 +1,3 @@
-pub mod Choice
 pub mod Lists
 pub mod inner
 pub mod cases

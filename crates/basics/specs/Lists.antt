@@ -1,6 +1,5 @@
 -- Lists in parts, and searches below a bound.
-use Rattle.std.specs.Prelude.{ℕ, zero, suc, ◌+◌, Bool, List, [], ◌∷◌, ◌++◌}
-use Rattle.basics.specs.Choice.{if◌then◌else◌}
+use Rattle.std.specs.Prelude.{ℕ, zero, suc, ◌+◌, Bool, List, [], ◌∷◌, ◌++◌, if◌then◌else◌}
 
 -- the lists f x of all x of a list, one after the other
 module _ {A B : Type 0} (f : A → List B) where

@@ -19,7 +19,7 @@ use lib.Dec.{eqb, eqb-zero-suc, eqb-suc-zero, eqb-suc-suc, lit<}
 use lib.Pow.{pow_pos, pow-lt, shr-shr, shl_exact, mod-pow-add}
 use lib.Bits.{bit_and, bit_or, or_shr, or_mod, and_mask, shifted_half, shifted_even}
 use lib.Count.{ones_in, ones, ones_cat}
-use Rattle.basics.specs.Choice.{if◌then◌else◌}
+use Rattle.std.specs.Prelude.{if◌then◌else◌}
 use Rattle.basics.specs.Lists.{count}
 use Rattle.bitmap.specs.inner.Bits.{bit}
 

@@ -17,9 +17,9 @@ pub record RunFits (total least : ℕ) (r : Run) : Type 0 where
   pub within : r.offset + r.length ≤ total
   pub after : least ≤ r.offset
 
-pub run_fits : (total least : ℕ) (r : Run) → run_fits total least r ≡ true → RunFits total least r
+pub run_fits_law : (total least : ℕ) (r : Run) → run_fits total least r ≡ true → RunFits total least r
 unfolding run_fits
-run_fits total least r e =
+run_fits_law total least r e =
     let t = true_T _ e in
     let u = &&-r (leb 1 r.length) _ t in
     record {
@@ -40,7 +40,7 @@ fit_none total least = refl
 module _ (total least : ℕ) (r : Run) (rs : List Run) where
   pub fit_head : fit total least (r ∷ rs) ≡ true → RunFits total least r
   unfolding fit
-  fit_head e = run_fits total least r (T_true _ (&&-l (run_fits total least r) _ (true_T _ e)))
+  fit_head e = run_fits_law total least r (T_true _ (&&-l (run_fits total least r) _ (true_T _ e)))
 
   pub fit_tail : fit total least (r ∷ rs) ≡ true → fit total (r.offset + r.length + 1) rs ≡ true
   unfolding fit

@@ -4,11 +4,11 @@
 --     held_of     it is found by asking
 use Prim.Native.Nat.{ℕ, zero, suc, ◌+◌, ◌-◌, ◌<◌, ◌≤◌}
 use native.Mathlib.Omega.{arith}
-use mathlib.Core.Path.{◌≡◌, refl, sym, ap, ◌∙◌}
+use mathlib.Core.Path.{◌≡◌, sym, ap, ◌∙◌}
 use mathlib.Core.Logic.{◌⊎◌, inl, inr}
 use mathlib.Core.List.{List, [], ◌++◌}
 use lib.ListN.{length, take, drop}
-use lib.Seq.{length-take-le, take_all, take-length, drop-length, take-add}
+use lib.Seq.{length-take-le, drop-length, take-add}
 use Rattle.basics.proofs.Test.{lt_or}
 use Rattle.blockfile.specs.inner.Needs.{needs, Held}
 use Rattle.blockfile.proofs.Stages.{up_to_sizes, three}

@@ -7,7 +7,7 @@ use mathlib.Core.List.{List, [], ◌∷◌, ◌++◌}
 use lib.IntN.{ℤ}
 use lib.Dec.{eqb, ltb, ltb→lt}
 use borrow.Author.Tests.{lt-ltb}
-use Rattle.basics.specs.Choice.{if◌then◌else◌}
+use Rattle.std.specs.Prelude.{if◌then◌else◌}
 use Rattle.basics.specs.Lists.{gather}
 use Rattle.basics.proofs.Test.{&&-l, &&-r, T_true, true_T}
 use Rattle.lattice.specs.Counts.{Sized}

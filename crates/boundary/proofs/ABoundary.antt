@@ -5,7 +5,7 @@ use mathlib.Core.Path.{◌≡◌, refl}
 use mathlib.Core.List.{List, [], ◌∷◌, map}
 use lib.Dec.{eqb}
 use lib.IntN.{ℤ, pos, neg_ℤ}
-use Rattle.basics.specs.Choice.{if◌then◌else◌}
+use Rattle.std.specs.Prelude.{if◌then◌else◌}
 use Rattle.basics.specs.Lists.{gather, from, count}
 use Rattle.lattice.specs.Axis.{xyz}
 use Rattle.stencil.specs.Row.{row, Face, face}

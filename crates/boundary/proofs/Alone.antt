@@ -11,7 +11,7 @@ use mathlib.Core.List.{List}
 use lib.Dec.{T, T_not, eqb, eqb→eq}
 use lib.ListN.{length}
 use borrow.Author.Tests.{eq-eqb}
-use Rattle.basics.specs.Choice.{if◌then◌else◌}
+use Rattle.std.specs.Prelude.{if◌then◌else◌}
 use Rattle.basics.specs.Lists.{count}
 use Rattle.basics.proofs.Test.{&&-l, &&-r, &&-i, or_cases, or_l, or_r, F-false, false_F, eqb_of, decide, lt_or}
 use Rattle.basics.proofs.Search.{count_none}

@@ -26,6 +26,7 @@ four_row : {i : ℕ} {x : HalfFace} → Member x (four_of i) → x.0 ≡ i
 four_row {i} = of_row the_vertices.all
   where
     of_row : (l : List Vertex) {x : HalfFace} → Member x (map (λ v. (i, v)) l) → x.0 ≡ i
+    of_row [] m = elim m [ ]
     of_row (v ∷ l) here = refl
     of_row (v ∷ l) (there m) = of_row l m
 

@@ -9,7 +9,7 @@ use mathlib.Core.Bool.{Bool, true, false}
 use mathlib.Core.List.{List, [], ◌∷◌}
 use lib.Dec.{T}
 use lib.ListN.{length}
-use Rattle.basics.specs.Choice.{if◌then◌else◌}
+use Rattle.std.specs.Prelude.{if◌then◌else◌}
 use Rattle.basics.specs.Lists.{gather}
 use Rattle.basics.proofs.Test.{Member, here, there, true_T}
 use Rattle.basics.proofs.Gather.{NoRepeats, empty, more, gather_i, gather_part}
@@ -35,6 +35,8 @@ module _ (rows : List (Row ℕ)) where
     where
       kept : (b : Bool) (h : Face ℕ) → Member g (if b then h ∷ [] else []) → T b × (h ≡ g)
       kept true h here = (tt, refl)
+      kept true h (there m) = elim m [ ]
+      kept false h m = elim m [ ]
 
   pub from_alone : {g : Face ℕ} → Member g (boundary_faces rows)
       → (x : HalfFace) × Member x (half_faces (length rows)) × T (alone rows x) × (outward rows x ≡ g)

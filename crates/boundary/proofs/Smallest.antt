@@ -9,7 +9,7 @@ use mathlib.Core.List.{List, [], ◌∷◌, ◌++◌}
 use lib.Dec.{T, le→leb, ltb→lt}
 use lib.IntN.{ℤ, pos, negsuc}
 use lib.Signed.{lt_z, le_z, ◌<ℤ◌, lt_z_yes, le_z_yes, lt_z_no, <ℤ-≤ℤ_trans, <ℤ_irrefl}
-use Rattle.basics.specs.Choice.{if◌then◌else◌}
+use Rattle.std.specs.Prelude.{if◌then◌else◌}
 use Rattle.basics.proofs.Test.{Member, here, there, true_T, F-false}
 use Rattle.boundary.specs.Sum.{least_from, smallest}
 
@@ -65,12 +65,14 @@ module _ {A : Type 0} (g : A → ℤ) where
   below_first m [] h = h
   below_first m (x ∷ l) h = (below_both (g x) m (below_first (lesser (g x) m) l h)).1
 
-  below_rest : {z : ℤ} (m : ℤ) {y : A} {l : List A} → Member y l → z <ℤ least_from g m l → z <ℤ g y
+  below_rest : {z : ℤ} {y : A} (m : ℤ) {l : List A} → Member y l → z <ℤ least_from g m l → z <ℤ g y
   unfolding least_from
+  below_rest m {l = []} p h = elim p [ ]
   below_rest m {l = x ∷ l} here h = (below_both (g x) m (below_first (lesser (g x) m) l h)).0
   below_rest m {l = x ∷ l} (there p) h = below_rest (lesser (g x) m) p h
 
   pub smallest_least : (l : List A) (y : A) → Member y l → lt_z (g y) (smallest g l) ≡ false
   unfolding smallest
+  smallest_least [] y p = elim p [ ]
   smallest_least (x ∷ l) y here = F-false _ (λ t. <ℤ_irrefl (below_first (g x) l (lt_z_yes t)))
   smallest_least (x ∷ l) y (there p) = F-false _ (λ t. <ℤ_irrefl (below_rest (g x) p (lt_z_yes t)))

@@ -9,7 +9,7 @@ use mathlib.Core.List.{List, [], ◌∷◌, ◌++◌, map}
 use lib.IntN.{ℤ, pos, ◌+ℤ◌, neg_ℤ, +ℤ_idl, +ℤ_idr, +ℤ_assoc, neg_ℤ-+ℤ}
 use Rattle.basics.specs.Lists.{gather}
 use Rattle.basics.proofs.Test.{Member, here, there}
-use Rattle.basics.proofs.Gather.{NoRepeats, more}
+use Rattle.basics.proofs.Gather.{NoRepeats, empty, more}
 use Rattle.basics.proofs.Integer.{above, beneath, nat, int, minus, ◌⊕◌, ring}
 use Rattle.boundary.specs.Sum.{sum}
 
@@ -34,6 +34,7 @@ module _ {A : Type 0} where
   pub sum_one : (g : A → ℤ) {a : A} {l : List A} → NoRepeats l → Member a l
       → ((y : A) → Member y l → (y ≡ a → ⊥) → g y ≡ pos 0) → sum g l ≡ g a
   unfolding sum
+  sum_one g empty m e = elim m [ ]
   sum_one g {a = a} (more {l = l} n p) here e =
       then (g a) (sum_zero g l (λ y m. e y (there m) (λ q. n (subst (λ (x : A). Member x l) q m)))) ∙ +ℤ_idr (g a)
   sum_one g {a = a} (more {x = x} {l = l} n p) (there m) e =

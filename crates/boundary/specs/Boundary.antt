@@ -5,8 +5,7 @@
 --     alone                  whether it belongs to its own row only
 --     boundary_faces          the faces in one row only
 --     face_volume, runs       what is added up and counted over them
-use Rattle.std.specs.Prelude.{ℕ, Bool, not, ◌&&◌, ◌||◌, List, [], ◌∷◌, length, ℤ, eqb}
-use Rattle.basics.specs.Choice.{if◌then◌else◌}
+use Rattle.std.specs.Prelude.{ℕ, Bool, not, ◌&&◌, ◌||◌, List, [], ◌∷◌, length, ℤ, eqb, if◌then◌else◌}
 use Rattle.basics.specs.Lists.{gather, below, count}
 use Rattle.stencil.specs.Tetrahedron.{Vertex, v0, v1, v2, v3}
 use Rattle.stencil.specs.Row.{Row, row, Face, face, face_of}

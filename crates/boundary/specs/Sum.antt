@@ -2,9 +2,8 @@
 --     sum                    the values added up
 --     how_many                how many of a list pass a test
 --     least_from, smallest    the least value
-use Rattle.std.specs.Prelude.{ℕ, ◌+◌, Bool, List, [], ◌∷◌, ℤ, pos, ◌+ℤ◌}
+use Rattle.std.specs.Prelude.{ℕ, ◌+◌, Bool, List, [], ◌∷◌, ℤ, pos, ◌+ℤ◌, if◌then◌else◌}
 use Rattle.std.specs.Int.Signed.{lt_z}
-use Rattle.basics.specs.Choice.{if◌then◌else◌}
 
 module _ {A : Type 0} where
   unfoldable pub sum : (A → ℤ) → List A → ℤ

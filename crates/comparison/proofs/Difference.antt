@@ -1,12 +1,12 @@
 -- A passed comparison leaves no difference, and equal tables pass. Assumes nothing.
 use Prim.Native.Nat.{ℕ, suc}
-use mathlib.Core.Path.{◌≡◌, refl, sym, ap, ap₂, ◌∙◌}
-use mathlib.Core.Bool.{true, false, ◌&&◌}
+use mathlib.Core.Path.{◌≡◌, refl, sym, ap, ap₂}
+use mathlib.Core.Bool.{true, false}
 use mathlib.Core.List.{List, [], ◌∷◌}
 use lib.ListN.{length, replicate}
 use lib.Dec.{T, eqb, eqb→eq}
 use borrow.Author.Tests.{eq-eqb}
-use Rattle.basics.proofs.Test.{&&-l, &&-r, T_true, F-false}
+use Rattle.basics.proofs.Test.{&&-l, &&-r, F-false}
 use Rattle.comparison.specs.program.Same.{same, untouched}
 
 pub same_equal : (xs ys : List ℕ) → T (same xs ys) → xs ≡ ys

@@ -13,7 +13,7 @@ use mathlib.Core.Bool.{Bool, true, false}
 use mathlib.Core.List.{List, [], ◌∷◌, ◌++◌}
 use lib.ListN.{length, get_or, set, length-append}
 use lib.Seq.{length-sets}
-use Rattle.basics.specs.Choice.{if◌then◌else◌}
+use Rattle.std.specs.Prelude.{if◌then◌else◌}
 use Rattle.basics.specs.Lists.{gather, from, below, count}
 use Rattle.basics.specs.inner.Writing.{Wrote}
 use Rattle.basics.proofs.Search.{count_none, count_parts}

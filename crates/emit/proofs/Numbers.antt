@@ -11,7 +11,7 @@ use Rattle.lattice.specs.declared.Sizes.{Sizes}
 use Rattle.lattice.specs.declared.Kind.{Kind}
 use Rattle.lattice.specs.declared.Kind.TheVariants.{Corner, Centre}
 use Rattle.lattice.specs.Axis.{Axis, along_x, along_y, along_z, xyz}
-use Rattle.lattice.specs.Counts.{Sized, largest, size, grid, corners, points}
+use Rattle.lattice.specs.Counts.{Sized, largest, size, grid, points}
 use Rattle.lattice.specs.Point.{linear, number}
 use Rattle.lattice.proofs.Axes.{the_axes}
 use Rattle.lattice.proofs.Bounds.{points_small}

@@ -6,7 +6,7 @@ use mathlib.Core.Path.{◌≡◌, sym, ◌∙◌, ap}
 use mathlib.Core.Logic.{inl, inr}
 use mathlib.Core.Bool.{Bool, true, false}
 use lib.Dec.{eqb, eqb→eq, T_not}
-use Rattle.basics.specs.Choice.{if◌then◌else◌}
+use Rattle.std.specs.Prelude.{if◌then◌else◌}
 use Rattle.basics.specs.Lists.{first_from}
 use Rattle.basics.proofs.Test.{decide, T_true, F-false, eqb_of, lt_or}
 use Rattle.lattice.specs.declared.Sizes.{Sizes}
@@ -142,5 +142,7 @@ module _ (s : Sizes) (t u : Tetrahedron) (ht : Valid s t) (hu : Valid s u) where
 
   pub id_same : (x y : Entry Vertex) → Alike (corner_number s t) (corner_number s u) x y → id_of s t x ≡ id_of s u y
   unfolding id_of
+  id_same (point a) (between c d) e = elim e [ ]
+  id_same (between a b) (point c) e = elim e [ ]
   id_same (point a) (point c) (on_one e) = e
   id_same (between a b) (between c d) (on_two e f) = cut_same a b c d e f

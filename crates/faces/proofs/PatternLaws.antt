@@ -18,7 +18,7 @@ use mathlib.Core.Bool.{Bool, true, false, not, ◌||◌}
 use mathlib.Core.List.{List, [], ◌∷◌}
 use lib.Dec.{T, eqb, eqb→eq, T_not}
 use lib.ListN.{length}
-use Rattle.basics.specs.Choice.{if◌then◌else◌}
+use Rattle.std.specs.Prelude.{if◌then◌else◌}
 use Rattle.basics.specs.Lists.{below}
 use Rattle.basics.proofs.Test.{◌&◌, and_l, and_r, and_i, imp_use, or_cases, decide, eqb_of}
 use Rattle.basics.proofs.Test.{below_use, any, Member, here, there}

@@ -1,6 +1,6 @@
 -- The program's tables and its input buffer are large enough: within its limit there are at most 1,200 lattice tetrahedra, so that
 -- 10 never arises; and what is printed for the first 9,046 bytes is what is printed for all of them. Assumes nothing.
-use Prim.Native.Nat.{ℕ, ◌+◌, ◌*◌, ◌-◌, ◌≤◌}
+use Prim.Native.Nat.{ℕ, ◌+◌, ◌≤◌}
 use native.Mathlib.Omega.{arith}
 use mathlib.Core.Path.{◌≡◌, refl}
 use mathlib.Core.Logic.{inl, inr}
@@ -10,7 +10,7 @@ use lib.IntN.{ℤ}
 use lib.ListN.{length, take}
 use lib.Dec.{eqb}
 use borrow.Author.Tests.{eq-eqb, ne_eqb}
-use Rattle.basics.specs.Choice.{if◌then◌else◌}
+use Rattle.std.specs.Prelude.{if◌then◌else◌}
 use Rattle.basics.proofs.Test.{lt_or}
 use Rattle.lattice.specs.declared.Sizes.{Sizes}
 use Rattle.filling.specs.declared.Filled.{Filled}
@@ -19,7 +19,7 @@ use Rattle.blockfile.specs.declared.Read.{Read}
 use Rattle.blockfile.specs.Format.{read_sizes, read_whole}
 use Rattle.blockfile.specs.inner.Needs.{bench_longest}
 use Rattle.blockfile.proofs.Checked.{Answers, fine, by_size, by_file, by_limit, whole_answers, whole_readable}
-use Rattle.blockfile.proofs.Longest.{Limited, limited, bench_most, first_bytes}
+use Rattle.blockfile.proofs.Longest.{limited, bench_most, first_bytes}
 use Rattle.fill_file.specs.declared.Summary.{Summary}
 use Rattle.fill_file.specs.program.Summary.{bench_limit, bench_rows, refusal, counted, fill_read, summary}
 use Rattle.fill_file.specs.program.Printed.{output}

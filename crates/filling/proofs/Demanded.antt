@@ -1,17 +1,16 @@
 -- What demand 3 refuses, in the least lists of rows: a face of three rows, a face of two that wind it the same way, a
 -- face of one row that is not on the skin, a flat row. Assumes nothing.
-use Prim.Native.Nat.{ℕ, zero, suc, ◌<◌}
+use Prim.Native.Nat.{ℕ, zero, suc}
 use native.Mathlib.Omega.{arith}
 use mathlib.Core.Path.{◌≡◌, refl, subst}
 use mathlib.Core.Logic.{inl, inr}
 use mathlib.Core.Bool.{Bool, ◌&&◌}
 use mathlib.Core.List.{List, [], ◌∷◌}
-use lib.ListN.{length}
 use lib.IntN.{pos}
 use lib.Dec.{T, eqb}
 use Rattle.lattice.specs.Axis.{xyz}
 use Rattle.stencil.specs.Tetrahedron.{v0, v1, v2, v3}
-use Rattle.stencil.specs.Row.{Row, row, Face, face, Third, t0, t1, t2, Holds}
+use Rattle.stencil.specs.Row.{Row, row, Face, face, t0, t1, t2, Holds}
 use Rattle.geometry.specs.Volume.{cross, dot, triple, six_volume}
 use Rattle.filling.specs.Mesh.{row_volume}
 use Rattle.filling.specs.Demand.{FaceFits, shared, boundary, Conforms}

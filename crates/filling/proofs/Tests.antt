@@ -14,7 +14,7 @@ use mathlib.Core.List.{List, [], ◌∷◌}
 use lib.ListN.{length, get_or}
 use lib.Dec.{T, ltb, leb, eqb, T_not}
 use borrow.Author.Tests.{lt-ltb, le-ltb, ltb-true, eqb-true, eq-eqb, ne_eqb, not-false}
-use Rattle.basics.specs.Choice.{if◌then◌else◌}
+use Rattle.std.specs.Prelude.{if◌then◌else◌}
 use Rattle.basics.proofs.Test.{true_T, eqb_of, lt_or}
 use Rattle.basics.proofs.Search.{lowest_passes, none_lowest, lowest_is}
 use Rattle.lattice.specs.declared.Sizes.{Sizes}

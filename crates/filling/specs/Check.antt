@@ -3,8 +3,7 @@
 --     rim_fault, first_rim         refusal 5
 --     crosses, cut_fault, first_cut   refusals 6 and 7
 --     Accepted                   a block and a band that pass
-use Rattle.std.specs.Prelude.{ℕ, ◌*◌, ◌/◌, ◌%◌, ◌≤◌, ◌<◌, ◌≡◌, Bool, false, not, ◌&&◌, List, get_or, eqb}
-use Rattle.basics.specs.Choice.{if◌then◌else◌}
+use Rattle.std.specs.Prelude.{ℕ, ◌*◌, ◌/◌, ◌%◌, ◌≤◌, ◌<◌, ◌≡◌, Bool, false, not, ◌&&◌, List, get_or, eqb, if◌then◌else◌}
 use Rattle.basics.specs.Lists.{lowest}
 use Rattle.lattice.specs.declared.Sizes.{Sizes}
 use Rattle.lattice.specs.declared.Near.{Near}

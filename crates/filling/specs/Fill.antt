@@ -1,7 +1,6 @@
 -- Document 01, "Calls and refusals", and document 02's F-3, "A noise band", and F-9, "Band before rim": what filling answers and leaves in
 -- the lent tables, for every input.
-use Rattle.std.specs.Prelude.{ℕ, ◌*◌, not, List, ◌++◌, length, get_or, drop, ltb, leb, eqb}
-use Rattle.basics.specs.Choice.{if◌then◌else◌}
+use Rattle.std.specs.Prelude.{ℕ, ◌*◌, not, List, ◌++◌, length, get_or, drop, ltb, leb, eqb, if◌then◌else◌}
 use Rattle.basics.specs.Lists.{count}
 use Rattle.lattice.specs.Counts.{sizes_fit, points}
 use Rattle.moving.specs.Label.{labels, band_fits}

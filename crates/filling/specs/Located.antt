@@ -1,6 +1,5 @@
 -- Document 01, "Calls and refusals", and document 02's F-8: what the place call answers, for every input.
-use Rattle.std.specs.Prelude.{ℕ, ◌+◌, ◌*◌, ◌-◌, ◌/◌, ◌%◌, Bool, true, false, not, ◌&&◌, List, ℤ, nat_abs, length, get_or, ltb, leb, eqb}
-use Rattle.basics.specs.Choice.{if◌then◌else◌}
+use Rattle.std.specs.Prelude.{ℕ, ◌*◌, ◌-◌, ◌/◌, ◌%◌, Bool, true, false, not, ◌&&◌, List, nat_abs, length, get_or, ltb, leb, eqb, if◌then◌else◌}
 use Rattle.lattice.specs.declared.Sizes.{Sizes}
 use Rattle.lattice.specs.declared.Near.{Near}
 use Rattle.lattice.specs.declared.Near.TheVariants.{At, Nothing}

@@ -1,7 +1,6 @@
 -- Document 01, "Lattice tetrahedra and rows": the rows of a block, one after the other.
-use Rattle.std.specs.Prelude.{ℕ, Bool, List, [], ◌∷◌, map, ℤ, pos}
+use Rattle.std.specs.Prelude.{ℕ, List, [], ◌∷◌, map, ℤ, pos, if◌then◌else◌}
 use Rattle.std.specs.Int.Signed.{lt_z}
-use Rattle.basics.specs.Choice.{if◌then◌else◌}
 use Rattle.basics.specs.Lists.{gather}
 use Rattle.lattice.specs.declared.Sizes.{Sizes}
 use Rattle.moving.specs.declared.Label.{Label}

@@ -1,6 +1,6 @@
 -- Document 01, "Lattice tetrahedra and rows": the six-volume of a tetrahedron.
-use Rattle.std.specs.Prelude.{ℤ, pos, ◌+ℤ◌, ◌-ℤ◌, ◌*ℤ◌}
-use Rattle.lattice.specs.Axis.{Axis, along_x, along_y, along_z, xyz}
+use Rattle.std.specs.Prelude.{ℤ, ◌+ℤ◌, ◌-ℤ◌, ◌*ℤ◌}
+use Rattle.lattice.specs.Axis.{along_x, along_y, along_z, xyz}
 use Rattle.geometry.specs.Place.{Place}
 
 -- the difference from a place to another

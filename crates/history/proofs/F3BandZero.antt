@@ -9,7 +9,7 @@ use mathlib.Core.Bool.{not}
 use mathlib.Core.List.{List}
 use lib.ListN.{length}
 use lib.Dec.{ltb, eqb}
-use Rattle.basics.specs.Choice.{if◌then◌else◌}
+use Rattle.std.specs.Prelude.{if◌then◌else◌}
 use Rattle.lattice.specs.Counts.{sizes_fit, points}
 use Rattle.moving.specs.Label.{band_fits}
 use Rattle.moving.specs.Violation.{rule1}

@@ -20,7 +20,7 @@ use lib.Dec.{eqb}
 use lib.ListN.{length, get_or, set, replicate, length-set, length-replicate, get_or-replicate, get_or-eq_default}
 use lib.Seq.{get_or-set_same, get_or-set_other}
 use borrow.Author.Tests.{eq-eqb, ne_eqb}
-use Rattle.basics.specs.Choice.{if◌then◌else◌}
+use Rattle.std.specs.Prelude.{if◌then◌else◌}
 use Rattle.basics.specs.Lists.{from, below}
 use Rattle.basics.proofs.Test.{lt_or}
 use Rattle.lattice.specs.declared.Near.{Near}
@@ -98,15 +98,15 @@ module _ (m : Reading) where
   unmarked_at : ℕ → List ℕ
   unmarked_at n = move_by (choice m) (below n) zeros
 
-  moved_before : (order codes : List ℕ) → moved_before order codes ≡ move_by (choice m) order codes
+  moved_before_law : (order codes : List ℕ) → moved_before order codes ≡ move_by (choice m) order codes
   unfolding moved_before move_by turn move_to move_to_before choice
-  moved_before [] codes = refl
-  moved_before (p ∷ order) codes =
+  moved_before_law [] codes = refl
+  moved_before_law (p ∷ order) codes =
       let by = violation_by m codes p in
       let c = nearest_to by 14 in
       let turned : move_to_before codes p (nearest_before by 14) ≡ turn (choice m) codes p =
       rw (nearest_before_law by 14 (omega arith)) (code_before c (nearest_le by 14 (omega arith)) codes (set codes p c)) in
-      moved_before order (move_to_before codes p (nearest_before by 14)) ∙ ap (move_by (choice m) order) turned
+      moved_before_law order (move_to_before codes p (nearest_before by 14)) ∙ ap (move_by (choice m) order) turned
 
   -- what is chosen depends on the labels alone
   choice_same : (s t : List ℕ) → ((p : ℕ) → label_after m.label s p ≡ label_after m.label t p) → (p : ℕ) → choice m s p ≡ choice m t p
@@ -199,7 +199,7 @@ module _ (m : Reading) where
 
   pub alike : Alike state_unmarked (state_of m)
   unfolding state_unmarked unmarked_at
-  alike = rw (moved_before (below (points m.sizes)) zeros) (alike_at (points m.sizes) (omega arith))
+  alike = rw (moved_before_law (below (points m.sizes)) zeros) (alike_at (points m.sizes) (omega arith))
 
   pub same_labels : (p : ℕ) → label_after m.label state_unmarked p ≡ label_after m.label (state_of m) p
   same_labels = alike_labels alike

@@ -21,7 +21,7 @@ use lib.IntN.{pos, nat_abs}
 use lib.ListN.{get_or}
 use lib.Dec.{T}
 use borrow.Author.Tests.{eq-eqb, ne_eqb}
-use Rattle.basics.specs.Choice.{if◌then◌else◌}
+use Rattle.std.specs.Prelude.{if◌then◌else◌}
 use Rattle.basics.proofs.Test.{&&-l, T_true, F-false, false_F, lt_or}
 use Rattle.basics.proofs.Search.{lowest_le, lowest_passes, lowest_fails, lowest_is}
 use Rattle.lattice.specs.Counts.{points}

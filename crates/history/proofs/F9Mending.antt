@@ -16,7 +16,7 @@ use mathlib.Core.Bool.{Bool, true, false, not}
 use lib.Dec.{T, eqb}
 use lib.ListN.{length, get_or}
 use borrow.Author.Tests.{eq-eqb}
-use Rattle.basics.specs.Choice.{if◌then◌else◌}
+use Rattle.std.specs.Prelude.{if◌then◌else◌}
 use Rattle.basics.proofs.Search.{count_same}
 use Rattle.basics.proofs.Mapped.{read_all}
 use Rattle.lattice.specs.Counts.{sizes_fit, points}

@@ -19,7 +19,7 @@ use borrow.Author.Tests.{lt-ltb, le-ltb, le-leb, ltb-true, ltb-false}
 use mir.Syntax.{w16, w64}
 use mir.Val.{of_z, to_z, SFits}
 use mir.ValLaws.{to_z-of_z}
-use Rattle.basics.specs.Choice.{if◌then◌else◌}
+use Rattle.std.specs.Prelude.{if◌then◌else◌}
 use Rattle.basics.proofs.Test.{lt_or}
 use Rattle.moving.specs.declared.Label.{Label}
 use Rattle.moving.specs.declared.Label.TheVariants.{Minus, Zero, Plus}

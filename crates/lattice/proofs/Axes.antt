@@ -1,6 +1,6 @@
 -- The three axes as a finite type. Assumes nothing.
 use mathlib.Core.Bool.{Bool}
-use mathlib.Core.List.{List, [], ◌∷◌}
+use mathlib.Core.List.{[], ◌∷◌}
 use lib.Dec.{T}
 use Rattle.basics.proofs.Test.{here, there, Member, &&-l, &&-r, &&-i}
 use Rattle.basics.proofs.Finite.{Finite}

@@ -4,7 +4,7 @@ use native.Mathlib.Nat.{mul-le-mul, lt_of_le_of_lt}
 use native.Mathlib.Omega.{arith}
 use lib.Dec.{T, ltb, ltb→lt}
 use Rattle.lattice.specs.declared.Sizes.{Sizes}
-use Rattle.lattice.specs.Counts.{Sized, largest, widest, cells, corners, points, most_points, tetrahedra}
+use Rattle.lattice.specs.Counts.{Sized, largest, widest, cells, corners, points, most_points}
 
 -- a product of bounded numbers fits a word
 pub small : (A B : ℕ) {a b : ℕ} → a ≤ A → b ≤ B → T (ltb (A * B) (2 ^ 64)) → a * b < 2 ^ 64

@@ -1,22 +1,21 @@
 -- Edges of the lattice: the far end is a point of the block, the edge is the same seen from there, and it has one start.
 -- Assumes nothing.
-use Prim.Native.Nat.{ℕ, suc, ◌+◌, ◌*◌, ◌-◌, ◌/◌, ◌%◌, ◌≤◌, ◌<◌}
+use Prim.Native.Nat.{ℕ, ◌+◌, ◌*◌, ◌-◌, ◌/◌, ◌≤◌, ◌<◌}
 use native.Mathlib.Omega.{arith}
 use mathlib.Core.Path.{◌≡◌, refl, sym, ap, subst, ◌∙◌}
-use mathlib.Core.Logic.{◌⊎◌, inl, inr}
+use mathlib.Core.Logic.{inl, inr}
 use mathlib.Core.Bool.{Bool, true, false, not}
 use lib.Dec.{T, leb, leb→le, le→leb}
-use Rattle.basics.specs.Choice.{if◌then◌else◌}
+use Rattle.std.specs.Prelude.{if◌then◌else◌}
 use Rattle.basics.proofs.Test.{&&-l, &&-r, &&-i, T_true, true_T}
 use Rattle.lattice.specs.declared.Sizes.{Sizes}
 use Rattle.lattice.specs.declared.Kind.{Kind}
 use Rattle.lattice.specs.declared.Kind.TheVariants.{Corner, Centre}
-use Rattle.lattice.specs.declared.Near.{Near}
 use Rattle.lattice.specs.declared.Near.TheVariants.{At, Nothing}
 use Rattle.lattice.specs.Axis.{Axis, along_x}
 use Rattle.lattice.specs.Counts.{size, grid, points}
 use Rattle.lattice.specs.Point.{doubled, other, Inside, number, kind_of, index_of}
-use Rattle.lattice.specs.Direction.{Step, long, Code, is_start, direction_of, step, opposite}
+use Rattle.lattice.specs.Direction.{long, Code, is_start, direction_of, step, opposite}
 use Rattle.lattice.specs.Edge.{stays_in, exists, far_kind, far_index, near, neighbour, byte_at, edge_byte}
 use Rattle.lattice.proofs.Axes.{everywhere_use, everywhere_i}
 use Rattle.lattice.proofs.Number.{number_lt, number_inj, number_of, inside_of, kind_number, index_number}

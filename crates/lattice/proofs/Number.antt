@@ -1,17 +1,17 @@
 -- The numbering of the lattice points: ascending, one to one, and onto the numbers below N. Assumes nothing.
-use Prim.Native.Nat.{ℕ, suc, ◌+◌, ◌*◌, ◌-◌, ◌/◌, ◌%◌, ◌≤◌, ◌<◌}
+use Prim.Native.Nat.{ℕ, ◌+◌, ◌*◌, ◌-◌, ◌/◌, ◌%◌, ◌≤◌, ◌<◌}
 use native.Mathlib.Nat.{mul-le-mul_left, mod-lt, mod-add-div, mul_comm, div-lt_iff_lt-mul}
 use native.Mathlib.Omega.{arith}
 use native.Mathlib.Decide.{dec_lt}
 use mathlib.Core.Path.{◌≡◌, refl, sym, ap, ◌∙◌}
-use mathlib.Core.Logic.{◌⊎◌, inl, inr}
+use mathlib.Core.Logic.{inl, inr}
 use borrow.Author.Tests.{lt-ltb, le-ltb}
 use Rattle.basics.proofs.Test.{lt_or}
 use Rattle.lattice.specs.declared.Sizes.{Sizes}
 use Rattle.lattice.specs.declared.Kind.{Kind}
 use Rattle.lattice.specs.declared.Kind.TheVariants.{Corner, Centre}
 use Rattle.lattice.specs.Axis.{Axis, along_x, along_y, along_z, xyz}
-use Rattle.lattice.specs.Counts.{along, grid, cells, corners, points}
+use Rattle.lattice.specs.Counts.{grid, cells, corners, points}
 use Rattle.lattice.specs.Point.{Inside, linear, number, cell, kind_of, cell_of, index_of}
 
 -- two digits, x + a y with x below a

@@ -14,7 +14,7 @@ use Rattle.lattice.specs.declared.Site.{Site}
 use Rattle.lattice.specs.declared.Shift.{Shift}
 use Rattle.lattice.specs.Axis.{Axis, along_x, along_y, along_z, xyz}
 use Rattle.lattice.specs.Counts.{Sized, largest, widest, along, grid, cells, corners}
-use Rattle.lattice.specs.Point.{doubled, other, Inside, linear, number, cell, kind_of}
+use Rattle.lattice.specs.Point.{doubled, other, Inside, linear, number, cell}
 use Rattle.lattice.specs.Direction.{long, Code, is_start, direction_of, step}
 use Rattle.lattice.specs.Edge.{stays_in, exists, far_kind, far_index}
 use Rattle.lattice.specs.inner.Site.{most, odd_of, Sited, index, site_at, site_of, stays_by}

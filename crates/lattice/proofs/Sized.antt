@@ -1,7 +1,7 @@
 -- Sizes that pass the test are sizes 1 to 64, and the other way round. Assumes nothing.
-use Prim.Native.Nat.{ℕ, ◌≤◌}
+use Prim.Native.Nat.{◌≤◌}
 use mathlib.Core.Path.{◌≡◌}
-use mathlib.Core.Bool.{Bool, true, ◌&&◌}
+use mathlib.Core.Bool.{true, ◌&&◌}
 use lib.Dec.{T, leb, leb→le, le→leb}
 use Rattle.basics.proofs.Test.{&&-l, &&-r, &&-i, T_true, true_T}
 use Rattle.lattice.specs.declared.Sizes.{Sizes}

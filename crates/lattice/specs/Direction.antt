@@ -1,6 +1,5 @@
 -- Document 01, "The block" and "Moving points": the seven directions and the fourteen codes.
-use Rattle.std.specs.Prelude.{ℕ, ◌+◌, ◌-◌, ◌%◌, ◌≤◌, Bool, List, [], ◌∷◌, get_or, ltb, leb}
-use Rattle.basics.specs.Choice.{if◌then◌else◌}
+use Rattle.std.specs.Prelude.{ℕ, ◌+◌, ◌-◌, ◌%◌, ◌≤◌, Bool, List, [], ◌∷◌, get_or, ltb, leb, if◌then◌else◌}
 use Rattle.lattice.specs.Axis.{Axis, xyz}
 
 -- a step along an axis in doubled coordinates: so much up, so much down

@@ -4,8 +4,7 @@
 --     fault_at                   what filling would say of a byte
 --     mended_byte, faults        what becomes of a byte, and how many are at fault
 --     mended, mend               the call
-use Rattle.std.specs.Prelude.{ℕ, ◌+◌, ◌*◌, ◌/◌, ◌%◌, not, List, map, ℤ, pos, nat_abs, length, get_or, ltb, eqb}
-use Rattle.basics.specs.Choice.{if◌then◌else◌}
+use Rattle.std.specs.Prelude.{ℕ, ◌+◌, ◌*◌, ◌/◌, ◌%◌, not, List, map, ℤ, pos, nat_abs, length, get_or, ltb, eqb, if◌then◌else◌}
 use Rattle.basics.specs.Lists.{below, count}
 use Rattle.lattice.specs.declared.Near.{Near}
 use Rattle.lattice.specs.declared.Near.TheVariants.{At, Nothing}

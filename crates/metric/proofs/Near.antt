@@ -3,7 +3,7 @@
 -- half            a fraction rounded to a whole number is off by half of one at most
 -- round_near      a fraction in the normal range, rounded to binary64, is off by one part in 2 ^ 53 at most
 -- product_near    so is a whole number of steps times a unit
-use Prim.Native.Nat.{ℕ, zero, suc, ◌+◌, ◌-◌, ◌*◌, ◌/◌, ◌%◌, ◌^◌, ◌≤◌, ◌<◌, compare, Ordering}
+use Prim.Native.Nat.{ℕ, zero, suc, ◌+◌, ◌*◌, ◌/◌, ◌%◌, ◌^◌, ◌≤◌, ◌<◌, compare, Ordering}
 use native.Mathlib.Omega.{arith}
 use native.Mathlib.Nat.{le_trans, le_of_eq, add-mul, one-mul, mod-lt, div-add-mod', mul_assoc, mul_comm, mul_right_comm}
 use native.Mathlib.Nat.{mul-pos, mul-le-mul_left, mul-le-mul_right, le_of_mul-le-mul_right, le-div_iff_mul-le}

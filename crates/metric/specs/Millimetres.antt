@@ -1,9 +1,8 @@
 -- Document 02, F-1, "Places in millimetres": what the call answers, for every input. Floats, and what an operation on them gives, are the
 -- logic's own account of IEEE 754 (`lib.Ieee`): `fin s m e` is m times 2 ^ e, negative where s is true.
-use Rattle.std.specs.Prelude.{ℕ, Bool, false, not, ◌&&◌, List, pos, negsuc, eqb, Float}
+use Rattle.std.specs.Prelude.{ℕ, Bool, false, not, ◌&&◌, List, pos, negsuc, eqb, Float, if◌then◌else◌}
 use Rattle.std.specs.Float.{fin, binary64}
 use Rattle.std.specs.Float.Ieee.{of_int, mul, le}
-use Rattle.basics.specs.Choice.{if◌then◌else◌}
 use Rattle.lattice.specs.declared.Sizes.{Sizes}
 use Rattle.filling.specs.declared.Placed.{Placed}
 use Rattle.filling.specs.Located.{locate}

@@ -9,7 +9,7 @@ use mathlib.Core.Bool.{Bool}
 use mathlib.Core.List.{List, [], ◌∷◌, map}
 use lib.IntN.{pos, neg_ℤ}
 use lib.ListN.{replicate, set}
-use Rattle.basics.specs.Choice.{if◌then◌else◌}
+use Rattle.std.specs.Prelude.{if◌then◌else◌}
 use Rattle.basics.specs.Lists.{gather, from, below}
 use Rattle.basics.specs.cases.Table.{Entry, ◌:=◌, table_of}
 use Rattle.lattice.specs.Counts.{cells, points}

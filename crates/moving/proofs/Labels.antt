@@ -1,6 +1,6 @@
 -- The three labels as a finite type, and opposed labels: the other way round, and neither is zero. Assumes nothing.
 use mathlib.Core.Bool.{Bool, not}
-use mathlib.Core.List.{List, [], ◌∷◌}
+use mathlib.Core.List.{[], ◌∷◌}
 use lib.Dec.{T}
 use Rattle.basics.proofs.Test.{◌&◌, and_l, and_r, imp, imp_use, here, there, Member}
 use Rattle.basics.proofs.Finite.{Finite, each, each_use}
@@ -27,20 +27,20 @@ either_way_ok : T (each the_labels (λ l. each the_labels (opposed_ways l)))
 unfolding ◌&◌ opposed_ways either_way opposed is_plus is_minus is_zero
 either_way_ok = tt
 
-either_way : (l m : Label) → T (opposed l m) → T (either_way l m)
+either_way_law : (l m : Label) → T (opposed l m) → T (either_way l m)
 unfolding opposed_ways
-either_way l m =
+either_way_law l m =
     let all = each_use the_labels (λ l. each the_labels (opposed_ways l)) either_way_ok l in
     imp_use (opposed l m) (either_way l m) (each_use the_labels (opposed_ways l) all m)
 
 pub opposed_sym : (l m : Label) → T (opposed l m) → T (opposed m l)
 unfolding either_way
-opposed_sym l m t = and_l _ _ (either_way l m t)
+opposed_sym l m t = and_l _ _ (either_way_law l m t)
 
 pub opposed_near : (l m : Label) → T (opposed l m) → T (not (is_zero l))
 unfolding either_way
-opposed_near l m t = and_l _ _ (and_r (opposed m l) _ (either_way l m t))
+opposed_near l m t = and_l _ _ (and_r (opposed m l) _ (either_way_law l m t))
 
 pub opposed_far : (l m : Label) → T (opposed l m) → T (not (is_zero m))
 unfolding either_way
-opposed_far l m t = and_r (not (is_zero l)) _ (and_r (opposed m l) _ (either_way l m t))
+opposed_far l m t = and_r (not (is_zero l)) _ (and_r (opposed m l) _ (either_way_law l m t))

@@ -20,7 +20,7 @@ use mathlib.Core.List.{List}
 use lib.Dec.{T, eqb}
 use lib.ListN.{length, get_or, length-map, get_or-eq_default}
 use borrow.Author.Tests.{eq-eqb, ne_eqb}
-use Rattle.basics.specs.Choice.{if◌then◌else◌}
+use Rattle.std.specs.Prelude.{if◌then◌else◌}
 use Rattle.basics.specs.Lists.{below}
 use Rattle.basics.proofs.Test.{T_true, false_F, true_T, lt_or, Member}
 use Rattle.basics.proofs.Mapped.{map_at, from_length, from_at}

@@ -45,7 +45,8 @@ module _ {m : Reading} {pick : List ℕ → ℕ → ℕ} (sound : Sound m pick) 
     pub run_move_by : {t : List ℕ} (order : List ℕ) → PointsOnly m order → Run m s t → Run m s (move_by pick order t)
     unfolding move_by
     run_move_by [] h r = r
-    run_move_by (p ∷ order) h r = run_move_by order (λ q i. h q (there i)) (run_turn p (h p here) r)
+    run_move_by {t = t} (p ∷ order) h r =
+        run_move_by {t = turn pick t p} order (λ q i. h q (there i)) (run_turn p (h p here) r)
 
   -- after its turn a point is calm: nothing violated it, or it moved and its label is zero
   turn_calm : (t : List ℕ) (p : ℕ) → length t ≡ points m.sizes → p < points m.sizes → Complete m pick p
@@ -62,6 +63,7 @@ module _ {m : Reading} {pick : List ℕ → ℕ → ℕ} (sound : Sound m pick) 
   pub move_by_calm : (t : List ℕ) {p : ℕ} (order : List ℕ) → length t ≡ points m.sizes → PointsOnly m order
       → Complete m pick p → Member p order → Calm m (move_by pick order t) p
   unfolding move_by
+  move_by_calm t [] long h complete i = elim i [ ]
   move_by_calm t (p ∷ order) long h complete here =
       let turned = turn_length pick t p ∙ long in
       let after = run_move_by turned order (λ q i. h q (there i)) start in

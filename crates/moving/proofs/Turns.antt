@@ -7,7 +7,7 @@ use mathlib.Core.List.{List, [], ◌∷◌, ◌++◌}
 use lib.ListN.{length, get_or, set, length-set}
 use lib.Dec.{T}
 use lib.Seq.{get_or-set_same, get_or-set_other}
-use Rattle.basics.specs.Choice.{if◌then◌else◌}
+use Rattle.std.specs.Prelude.{if◌then◌else◌}
 use Rattle.basics.specs.Lists.{from, below}
 use Rattle.basics.proofs.Test.{Member, here, there}
 use Rattle.lattice.specs.Direction.{Code}

@@ -3,9 +3,8 @@
 --     label_of, labels      the label of a sample by a band, and the labelling of a block's points
 --     band_most, band_fits   which bands are taken
 --     is_plus, is_zero, is_minus, opposed
-use Rattle.std.specs.Prelude.{ℕ, Bool, true, false, List, leb, ℤ, pos, nat_abs, get_or}
+use Rattle.std.specs.Prelude.{ℕ, Bool, true, false, List, leb, ℤ, pos, nat_abs, get_or, if◌then◌else◌}
 use Rattle.std.specs.Int.Signed.{lt_z}
-use Rattle.basics.specs.Choice.{if◌then◌else◌}
 use Rattle.moving.specs.declared.Label.{Label}
 use Rattle.moving.specs.declared.Label.TheVariants.{Minus, Zero, Plus}
 

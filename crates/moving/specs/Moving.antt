@@ -1,6 +1,5 @@
 -- Document 01, "Moving points", with the choice of document 02, F-2, and the mark of F-8: which points move, and by which code.
-use Rattle.std.specs.Prelude.{ℕ, List, map}
-use Rattle.basics.specs.Choice.{if◌then◌else◌}
+use Rattle.std.specs.Prelude.{ℕ, List, map, if◌then◌else◌}
 use Rattle.basics.specs.Lists.{below}
 use Rattle.lattice.specs.Counts.{points}
 use Rattle.moving.specs.declared.Label.{Label}

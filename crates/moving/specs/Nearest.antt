@@ -1,7 +1,6 @@
 -- Document 02, F-2: "a point moves to the violating live cut nearest to it .. a tie goes to the lower code". What violates by each code
 -- is an argument.
-use Rattle.std.specs.Prelude.{ℕ, zero, suc, Bool, true, false, ltb}
-use Rattle.basics.specs.Choice.{if◌then◌else◌}
+use Rattle.std.specs.Prelude.{ℕ, zero, suc, Bool, true, false, ltb, if◌then◌else◌}
 use Rattle.moving.specs.declared.Violation.{Violation}
 use Rattle.moving.specs.declared.Violation.TheVariants.{No, Distance}
 use Rattle.moving.specs.State.{is_move}

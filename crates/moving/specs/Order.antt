@@ -1,6 +1,5 @@
 -- Moving along an order: points take their turns one after the other. What a point chooses at its turn is an argument.
-use Rattle.std.specs.Prelude.{ℕ, List, [], ◌∷◌, set}
-use Rattle.basics.specs.Choice.{if◌then◌else◌}
+use Rattle.std.specs.Prelude.{ℕ, List, [], ◌∷◌, set, if◌then◌else◌}
 use Rattle.moving.specs.State.{is_move}
 
 -- p's state byte becomes c if this is a move: a point that does not move keeps its byte

@@ -3,8 +3,7 @@
 --     label_after, live              labels while points move
 --     cut_along                      the cut byte of an edge
 --     violation_along, violation_by   how a live cut violates a point
-use Rattle.std.specs.Prelude.{ℕ, Bool, not, ◌&&◌, List, get_or}
-use Rattle.basics.specs.Choice.{if◌then◌else◌}
+use Rattle.std.specs.Prelude.{ℕ, Bool, not, ◌&&◌, List, get_or, if◌then◌else◌}
 use Rattle.lattice.specs.declared.Sizes.{Sizes}
 use Rattle.lattice.specs.declared.Near.{Near}
 use Rattle.lattice.specs.declared.Near.TheVariants.{At, Nothing}

@@ -3,8 +3,7 @@
 --     measured, squared    how far a cut is from an end
 --     violation            no, or that distance squared: the one test, for everyone who asks
 --     violated, violates   only whether it does
-use Rattle.std.specs.Prelude.{ℕ, ◌*◌, ◌-◌, Bool, true, false, not, ◌&&◌, leb, eqb}
-use Rattle.basics.specs.Choice.{if◌then◌else◌}
+use Rattle.std.specs.Prelude.{ℕ, ◌*◌, ◌-◌, Bool, true, false, not, ◌&&◌, leb, eqb, if◌then◌else◌}
 use Rattle.lattice.specs.Direction.{long, is_start, direction_of}
 use Rattle.moving.specs.declared.Violation.{Violation}
 use Rattle.moving.specs.declared.Violation.TheVariants.{No, Distance}

@@ -3,8 +3,7 @@
 --     node_of, node, node_table       what the node table holds
 --     first_unplaced                 the first entry whose id has no place
 --     Outcome, refused, numbered, number    the call
-use Rattle.std.specs.Prelude.{ℕ, ◌*◌, ◌%◌, Bool, false, not, ◌||◌, List, [], ◌∷◌, map, length, get_or, ltb, leb, eqb}
-use Rattle.basics.specs.Choice.{if◌then◌else◌}
+use Rattle.std.specs.Prelude.{ℕ, ◌*◌, ◌%◌, Bool, false, not, ◌||◌, List, [], ◌∷◌, map, length, get_or, ltb, leb, eqb, if◌then◌else◌}
 use Rattle.basics.specs.Lists.{gather, below, lowest, count}
 use Rattle.lattice.specs.declared.Sizes.{Sizes}
 use Rattle.lattice.specs.Counts.{sizes_fit, points}

@@ -15,7 +15,7 @@ use lib.Dec.{eqb}
 use lib.ListN.{length, get_or, set, take, drop, length-set, length-drop}
 use lib.Seq.{get_or-set_same, get_or-set_other, length-take-le}
 use borrow.Author.Tests.{eq-eqb, ne_eqb, eqb-true}
-use Rattle.basics.specs.Choice.{if◌then◌else◌}
+use Rattle.std.specs.Prelude.{if◌then◌else◌}
 use Rattle.basics.specs.Lists.{count}
 use Rattle.basics.proofs.Test.{lt_or}
 use Rattle.basics.proofs.Search.{count_le, count_none, count_same, count_parts, count_rest}

@@ -8,7 +8,7 @@ use lib.IntN.{ℤ, pos, nat_abs}
 use lib.ListN.{length, get_or}
 use lib.Dec.{eqb}
 use borrow.Author.Tests.{eq-eqb, ne_eqb, le-leb, lt-leb, lt-ltb, le-ltb}
-use Rattle.basics.specs.Choice.{if◌then◌else◌}
+use Rattle.std.specs.Prelude.{if◌then◌else◌}
 use Rattle.lattice.specs.declared.Sizes.{Sizes}
 use Rattle.lattice.specs.declared.Near.{Near}
 use Rattle.lattice.specs.declared.Near.TheVariants.{At, Nothing}
@@ -162,7 +162,12 @@ module _ (s : Sizes) (cuts state : List ℕ) (id : ℕ) where
         called : locate s cuts state id
             ≡ (if not (eqb (id_fault s cuts state id) 0) then unplaced (id_fault s cuts state id) else placed (place_of s cuts state id))
         unfolding locate
-        called = rw (f, eq-eqb _ _ lc, eq-eqb _ _ ls) refl
+        called = rw (f, eq-eqb _ _ lc, eq-eqb _ _ ls) (go (eqb (id_fault s cuts state id) 0))
+          where
+            go : (z : Bool) → (if z then placed (place_of s cuts state id) else unplaced (id_fault s cuts state id))
+                ≡ (if not z then unplaced (id_fault s cuts state id) else placed (place_of s cuts state id))
+            go true = refl
+            go false = refl
 
         pub call-point : id < points s → point_answer s cuts state id ≡ locate s cuts state id
         unfolding point_answer id_fault place_of

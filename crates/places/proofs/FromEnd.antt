@@ -1,17 +1,17 @@
 -- A point with a code stands on the cut of its edge. Seen from the point itself, that is a number of 256ths along the way of its code:
 -- the way from the end of an edge is the way from its start. Assumes nothing.
-use Prim.Native.Nat.{ℕ, ◌+◌, ◌*◌, ◌-◌, ◌≤◌, ◌<◌}
+use Prim.Native.Nat.{ℕ, ◌-◌, ◌≤◌, ◌<◌}
 use mathlib.Core.Path.{◌≡◌, refl, ap, ◌∙◌}
 use mathlib.Core.Bool.{Bool, true, false}
 use mathlib.Core.List.{List}
-use lib.IntN.{ℤ, pos, ◌+ℤ◌, ◌-ℤ◌, ◌*ℤ◌}
+use lib.IntN.{pos, ◌+ℤ◌, ◌*ℤ◌}
 use lib.ListN.{get_or}
-use Rattle.basics.specs.Choice.{if◌then◌else◌}
+use Rattle.std.specs.Prelude.{if◌then◌else◌}
 use Rattle.lattice.specs.declared.Sizes.{Sizes}
 use Rattle.lattice.specs.declared.Near.TheVariants.{At}
 use Rattle.lattice.specs.Axis.{Axis}
 use Rattle.lattice.specs.Counts.{points}
-use Rattle.lattice.specs.Point.{doubled, Inside, number, kind_of, index_of}
+use Rattle.lattice.specs.Point.{doubled, kind_of, index_of}
 use Rattle.lattice.specs.Direction.{Step, reversed, Code, is_start, direction_of, direction, step}
 use Rattle.lattice.specs.Edge.{neighbour, byte_at, edge_byte}
 use Rattle.lattice.proofs.Edge.{FarEnd, far}

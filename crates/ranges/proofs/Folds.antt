@@ -71,32 +71,32 @@ module _ (samples : List ℤ) (from p m n : ℕ) (h : mag (get_or samples p (pos
   read : to_z w16 (of_z w16 x) ≡ x
   read = handed x h
 
-  taken : (plus : Bool) (band : ℕ) → n ≡ of_z w16 x → has_label plus band (to_z w16 n) ≡ false → has_label plus band x ≡ false
-  taken plus band e f = ap (has_label plus band) (sym (ap (to_z w16) e ∙ read)) ∙ f
+  taken : (plus : Bool) (band : ℕ) → to_z w16 n ≡ to_z w16 (of_z w16 x) → has_label plus band (to_z w16 n) ≡ false → has_label plus band x ≡ false
+  taken plus band e f = ap (has_label plus band) (sym (e ∙ read)) ∙ f
 
-  kept : (plus : Bool) (band : ℕ) → n ≡ m → has_label plus band (to_z w16 n) ≡ false → has_label plus band (to_z w16 m) ≡ false
-  kept plus band e f = ap (λ (k : ℕ). has_label plus band (to_z w16 k)) (sym e) ∙ f
+  kept : (plus : Bool) (band : ℕ) → to_z w16 n ≡ to_z w16 m → has_label plus band (to_z w16 n) ≡ false → has_label plus band (to_z w16 m) ≡ false
+  kept plus band e f = ap (has_label plus band) (sym e) ∙ f
 
-  pub higher : Without true samples from p (to_z w16 m) → lt_z (to_z w16 m) (to_z w16 (of_z w16 x)) ≡ true → n ≡ of_z w16 x
+  pub higher : Without true samples from p (to_z w16 m) → lt_z (to_z w16 m) (to_z w16 (of_z w16 x)) ≡ true → to_z w16 n ≡ to_z w16 (of_z w16 x)
       → Without true samples from (p + 1) (to_z w16 n)
   higher w l e =
       without_more (to_z w16 m) (to_z w16 n) w
       (λ band f. less_plus band _ _ (ap (lt_z (to_z w16 m)) (sym read) ∙ l) (taken true band e f)) (λ band. taken true band e)
 
-  pub not_higher : Without true samples from p (to_z w16 m) → lt_z (to_z w16 m) (to_z w16 (of_z w16 x)) ≡ false → n ≡ m
+  pub not_higher : Without true samples from p (to_z w16 m) → lt_z (to_z w16 m) (to_z w16 (of_z w16 x)) ≡ false → to_z w16 n ≡ to_z w16 m
       → Without true samples from (p + 1) (to_z w16 n)
   not_higher w l e =
       without_more (to_z w16 m) (to_z w16 n) w (λ band. kept true band e)
       (λ band f. not_less_plus band _ _ (ap (lt_z (to_z w16 m)) (sym read) ∙ l) (kept true band e f))
 
-  pub lower : Without false samples from p (to_z w16 m) → lt_z (to_z w16 (of_z w16 x)) (to_z w16 m) ≡ true → n ≡ of_z w16 x
+  pub lower : Without false samples from p (to_z w16 m) → lt_z (to_z w16 (of_z w16 x)) (to_z w16 m) ≡ true → to_z w16 n ≡ to_z w16 (of_z w16 x)
       → Without false samples from (p + 1) (to_z w16 n)
   lower w l e =
       without_more (to_z w16 m) (to_z w16 n) w
       (λ band f. less_minus band _ _ (ap (λ (z : ℤ). lt_z z (to_z w16 m)) (sym read) ∙ l) (taken false band e f))
       (λ band. taken false band e)
 
-  pub not_lower : Without false samples from p (to_z w16 m) → lt_z (to_z w16 (of_z w16 x)) (to_z w16 m) ≡ false → n ≡ m
+  pub not_lower : Without false samples from p (to_z w16 m) → lt_z (to_z w16 (of_z w16 x)) (to_z w16 m) ≡ false → to_z w16 n ≡ to_z w16 m
       → Without false samples from (p + 1) (to_z w16 n)
   not_lower w l e =
       without_more (to_z w16 m) (to_z w16 n) w (λ band. kept false band e)

@@ -7,7 +7,7 @@ use mathlib.Core.List.{List, [], ◌∷◌, ◌++◌}
 use lib.IntN.{ℤ, pos, negsuc}
 use lib.ListN.{length, take, drop, replicate, take-append-drop}
 use lib.Dec.{T, eqb, eqb→eq}
-use Rattle.basics.specs.Choice.{if◌then◌else◌}
+use Rattle.std.specs.Prelude.{if◌then◌else◌}
 use Rattle.basics.proofs.Test.{&&-l, &&-r, true_T}
 use Rattle.lattice.specs.declared.Sizes.{Sizes}
 use Rattle.filling.specs.declared.Filled.{Filled}

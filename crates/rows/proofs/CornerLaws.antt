@@ -4,7 +4,7 @@ use native.Mathlib.Omega.{arith}
 use mathlib.Core.Path.{◌≡◌, refl, ap, ◌∙◌}
 use mathlib.Core.Bool.{Bool, true, false}
 use lib.Dec.{ltb}
-use Rattle.basics.specs.Choice.{if◌then◌else◌}
+use Rattle.std.specs.Prelude.{if◌then◌else◌}
 use Rattle.lattice.specs.Axis.{Axis}
 use Rattle.lattice.specs.Direction.{direction_of}
 use Rattle.stencil.specs.Tetrahedron.{Vertex, v0, v1, v2, v3, Quarter}

@@ -1,12 +1,11 @@
 -- The ids of the corners that the code holds are the ids of the entries of document 01's rows. Assumes nothing.
-use Prim.Native.Nat.{ℕ, ◌+◌, ◌*◌}
+use Prim.Native.Nat.{ℕ, ◌+◌}
 use mathlib.Core.Path.{◌≡◌, refl, sym, ap, ◌∙◌}
 use mathlib.Core.Bool.{Bool, true, false, not, beq}
 use mathlib.Core.List.{List, [], ◌∷◌, ◌++◌, map}
 use lib.Dec.{T, ltb, eqb}
-use Rattle.basics.specs.Choice.{if◌then◌else◌}
+use Rattle.std.specs.Prelude.{if◌then◌else◌}
 use Rattle.basics.specs.Lists.{gather}
-use Rattle.basics.proofs.Test.{F-false, false_F, T_true}
 use Rattle.lattice.specs.declared.Sizes.{Sizes}
 use Rattle.lattice.specs.Axis.{Axis}
 use Rattle.lattice.specs.Counts.{points}
@@ -22,12 +21,11 @@ use Rattle.stencil.specs.inner.Sign.{signed}
 use Rattle.filling.specs.Mesh.{ids, table}
 use Rattle.rows.specs.declared.Corner.{Corner}
 use Rattle.rows.specs.declared.Tetra.{Tetra}
-use Rattle.rows.specs.declared.Weights.{Weights}
 use Rattle.rows.specs.declared.Order.{Order}
 use Rattle.rows.specs.inner.Corners.{axis_at, quarter_at, vertex_at, corner_id, row_ids, corner_of, point_at, cut_at, start_between, way_between}
 use Rattle.rows.specs.inner.Picks.{sum, ordered, is_even}
 use Rattle.rows.specs.inner.Stencils.{lines, turned_row, stencil_rows, all_ids, tetra_ids}
-use Rattle.rows.proofs.Patterns.{weights, entry_lines, lines_are, Apart, ordered_apart}
+use Rattle.rows.proofs.Patterns.{weights, lines_are, Apart, ordered_apart}
 
 -- the id of an entry by the numbers of a tetrahedron's corners
 unfoldable pub id_by : ℕ → Tetra → Entry Vertex → ℕ

@@ -1,11 +1,11 @@
 -- The rows of four labels with their winding are the lines of the table over the corners in order, all 81 patterns computed; and the order
 -- names each corner once. Assumes nothing.
-use Prim.Native.Nat.{ℕ, ◌+◌, ◌%◌}
+use Prim.Native.Nat.{ℕ}
 use mathlib.Core.Path.{◌≡◌, refl, ap, ◌∙◌}
 use mathlib.Core.Bool.{Bool, true, false, not, beq}
 use mathlib.Core.List.{List, [], ◌∷◌, map}
 use lib.Dec.{T, eqb}
-use Rattle.basics.specs.Choice.{if◌then◌else◌}
+use Rattle.std.specs.Prelude.{if◌then◌else◌}
 use Rattle.basics.proofs.Test.{◌&◌, and_l, and_r}
 use Rattle.basics.proofs.Finite.{each, each_use}
 use Rattle.basics.proofs.Tested.{the_bools}

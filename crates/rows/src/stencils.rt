@@ -2,7 +2,8 @@
 // corners, m1.. the minus, z1.. the zero, in this order in o. If the order winds as it should, so do
 // the rows that bring in its corners in that order; the others wind the other way round.
 ghost use Rattle.std.specs.Prelude.{◌≡◌, ◌≤◌};
-ghost use Rattle.stencil.specs.Stencil.{stencil_of, plus_zero_only, +++-, ++--, ++-0, +---, +--0, +-00};
+ghost use Rattle.stencil.specs.Stencil.{stencil_of, plus_zero_only};
+ghost use Rattle.stencil.specs.Stencil as table;
 ghost use Rattle.rows.specs.inner.Corners.{turned, point_at};
 ghost use Rattle.rows.specs.inner.Stencils.{InOrder, row_count, listed, turned_row, stencil_rows};
 
@@ -54,7 +55,7 @@ fn only_corners(t: Tetra, o: Order, keep: bool) -> Rows
 
 fn three_plus_one_minus(t: Tetra, o: Order, keep: bool) -> Rows
     requires { InOrder t o }
-    ensures { listed result ≡ stencil_rows t o keep +++- }
+    ensures { listed result ≡ stencil_rows t o keep table.+++- }
 {
     let p1 = corners::point(t, o.first);
     let p2 = corners::point(t, o.second);
@@ -94,7 +95,7 @@ fn three_plus_one_minus(t: Tetra, o: Order, keep: bool) -> Rows
 
 fn two_plus_two_minus(t: Tetra, o: Order, keep: bool) -> Rows
     requires { InOrder t o }
-    ensures { listed result ≡ stencil_rows t o keep ++-- }
+    ensures { listed result ≡ stencil_rows t o keep table.++-- }
 {
     let p1 = corners::point(t, o.first);
     let p2 = corners::point(t, o.second);
@@ -134,7 +135,7 @@ fn two_plus_two_minus(t: Tetra, o: Order, keep: bool) -> Rows
 
 fn two_plus_one_minus(t: Tetra, o: Order, keep: bool) -> Rows
     requires { InOrder t o }
-    ensures { listed result ≡ stencil_rows t o keep ++-0 }
+    ensures { listed result ≡ stencil_rows t o keep table.++-0 }
 {
     let p1 = corners::point(t, o.first);
     let p2 = corners::point(t, o.second);
@@ -164,7 +165,7 @@ fn two_plus_one_minus(t: Tetra, o: Order, keep: bool) -> Rows
 
 fn one_plus_three_minus(t: Tetra, o: Order, keep: bool) -> Rows
     requires { InOrder t o }
-    ensures { listed result ≡ stencil_rows t o keep +--- }
+    ensures { listed result ≡ stencil_rows t o keep table.+--- }
 {
     let p1 = corners::point(t, o.first);
     let p1m1 = corners::cut(t, o.first, o.second);
@@ -184,7 +185,7 @@ fn one_plus_three_minus(t: Tetra, o: Order, keep: bool) -> Rows
 
 fn one_plus_two_minus(t: Tetra, o: Order, keep: bool) -> Rows
     requires { InOrder t o }
-    ensures { listed result ≡ stencil_rows t o keep +--0 }
+    ensures { listed result ≡ stencil_rows t o keep table.+--0 }
 {
     let p1 = corners::point(t, o.first);
     let p1m1 = corners::cut(t, o.first, o.second);
@@ -204,7 +205,7 @@ fn one_plus_two_minus(t: Tetra, o: Order, keep: bool) -> Rows
 
 fn one_plus_one_minus(t: Tetra, o: Order, keep: bool) -> Rows
     requires { InOrder t o }
-    ensures { listed result ≡ stencil_rows t o keep +-00 }
+    ensures { listed result ≡ stencil_rows t o keep table.+-00 }
 {
     let p1 = corners::point(t, o.first);
     let p1m1 = corners::cut(t, o.first, o.second);

@@ -9,7 +9,7 @@ use mathlib.Core.Path.{◌≡◌, sym}
 use mathlib.Core.Bool.{Bool, true, false}
 use native.Mathlib.Omega.{arith}
 use lib.Dec.{T, ltb, lt→ltb, leb, leb→le, eqb, eqb→eq}
-use Rattle.basics.specs.Choice.{if◌then◌else◌}
+use Rattle.std.specs.Prelude.{if◌then◌else◌}
 use Rattle.basics.specs.Lists.{first_from}
 use Rattle.basics.proofs.Test.{◌&◌, and_l, and_r, imp, imp_use}
 use Rattle.basics.proofs.Tested.{Tested, tested, ◌⊗◌}

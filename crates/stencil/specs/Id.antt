@@ -1,7 +1,6 @@
 -- Document 01, "Lattice tetrahedra and rows": "a corner in a row is a lattice point or the cut of an edge, with id p or
 -- N+7p+d".
-use Rattle.std.specs.Prelude.{ℕ, ◌+◌, Bool, eqb}
-use Rattle.basics.specs.Choice.{if◌then◌else◌}
+use Rattle.std.specs.Prelude.{ℕ, ◌+◌, Bool, eqb, if◌then◌else◌}
 use Rattle.basics.specs.Lists.{first_from}
 use Rattle.lattice.specs.declared.Sizes.{Sizes}
 use Rattle.lattice.specs.Axis.{Axis, everywhere}

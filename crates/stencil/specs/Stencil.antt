@@ -1,6 +1,5 @@
 -- Document 01, "Lattice tetrahedra and rows": the table of patterns and rows.
-use Rattle.std.specs.Prelude.{ℕ, ◌+◌, ◌*◌, ◌-◌, Bool, List, [], ◌∷◌, ◌++◌, length, get_or, ltb, leb, eqb}
-use Rattle.basics.specs.Choice.{if◌then◌else◌}
+use Rattle.std.specs.Prelude.{ℕ, ◌+◌, ◌*◌, ◌-◌, Bool, List, [], ◌∷◌, ◌++◌, length, get_or, ltb, leb, eqb, if◌then◌else◌}
 use Rattle.moving.specs.declared.Label.{Label}
 use Rattle.moving.specs.Label.{is_plus, is_minus, is_zero}
 use Rattle.stencil.specs.Tetrahedron.{Vertex, v0, v1, v2, v3}

@@ -1,8 +1,7 @@
 // The six-volumes of the rows of a filled block: their sum, and the smallest.
 #![tactic(auto)]
 
-ghost use Rattle.std.specs.Prelude.{◌≡◌, ◌*◌, ◌<◌, ◌≤◌, pos, ltb, eqb};
-ghost use Rattle.basics.specs.Choice.{if◌then◌else◌};
+ghost use Rattle.std.specs.Prelude.{◌≡◌, ◌*◌, ◌<◌, ◌≤◌, pos, ltb, eqb, if◌then◌else◌};
 ghost use Rattle.geometry.specs.Place.{place_of};
 ghost use Rattle.filling.specs.Mesh.{row_volume};
 ghost use Rattle.filling.specs.Demand.{row_read, rows_read};

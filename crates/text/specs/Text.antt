@@ -2,10 +2,9 @@
 --     ascii      the bytes of a word
 --     decimal    the digits of a number
 --     line       a line of fields
-use Rattle.std.specs.Prelude.{ℕ, zero, suc, ◌+◌, ◌/◌, ◌%◌, List, [], ◌∷◌, ◌++◌, ltb}
+use Rattle.std.specs.Prelude.{ℕ, zero, suc, ◌+◌, ◌/◌, ◌%◌, List, [], ◌∷◌, ◌++◌, ltb, if◌then◌else◌}
 use Prim.Native.Char.{code}
 use Prim.Native.String.{String, [] as none, ◌∷◌ as ◌then◌}
-use Rattle.basics.specs.Choice.{if◌then◌else◌}
 
 -- the ASCII codes of 0, of a space and of the end of a line
 abbrev pub zero_digit : ℕ

@@ -9,7 +9,7 @@ use lib.IntN.{pos}
 use lib.ListN.{take}
 use lib.Dec.{eqb}
 use borrow.Author.Tests.{eq-eqb, eqb-true}
-use Rattle.basics.specs.Choice.{if◌then◌else◌}
+use Rattle.std.specs.Prelude.{if◌then◌else◌}
 use Rattle.basics.proofs.Test.{false_F, true_T}
 use Rattle.lattice.specs.Counts.{points}
 use Rattle.moving.specs.Block.{Bytes}

@@ -6,7 +6,7 @@ use mathlib.Core.Path.{◌≡◌, refl, ap}
 use mathlib.Core.Bool.{Bool, true, false}
 use mathlib.Core.List.{List, [], ◌∷◌}
 use lib.ListN.{length, drop, length-drop}
-use Rattle.basics.specs.Choice.{if◌then◌else◌}
+use Rattle.std.specs.Prelude.{if◌then◌else◌}
 use Rattle.volume_report.specs.declared.Entry.{Entry}
 use Rattle.volume_report.specs.declared.Tally.{Tally}
 use Rattle.volume_report.specs.program.Report.{entry_of, line_of, counted, last_line, is_last, most_files, report_from, begun, report}

@@ -78,13 +78,16 @@ module _ (P : Vertex → Place) (w : Vertex) where
 
   -- what came before counts for nothing
   before_first : (p q : Place) (u : Vertex) → Member u (w ∷ []) → triple (from u) p q ≡ pos 0
+  before_first p q u (there m) = elim m [ ]
   before_first p q u here = null (λ v. triple v p q) (linear_first p q) (P w)
 
   before_second : (x : Vertex) (q : Place) (u : Vertex) → Member u (w ∷ x ∷ []) → triple (from x) (from u) q ≡ pos 0
+  before_second x q u (there (there m)) = elim m [ ]
   before_second x q u here = null (λ v. triple (from x) v q) (linear_second (from x) q) (P w)
   before_second x q u (there here) = twice_first (from x) q
 
   before_third : (x y u : Vertex) → Member u (w ∷ x ∷ y ∷ []) → triple (from x) (from y) (from u) ≡ pos 0
+  before_third x y u (there (there (there m))) = elim m [ ]
   before_third x y u here = null (λ v. triple (from x) (from y) v) (linear_third (from x) (from y)) (P w)
   before_third x y u (there here) = twice_outer (from x) (from y)
   before_third x y u (there (there here)) = twice_last (from x) (from y)

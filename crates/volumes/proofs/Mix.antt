@@ -11,7 +11,7 @@ use mathlib.Core.List.{List}
 use native.Mathlib.Omega.{arith}
 use lib.Dec.{T}
 use lib.IntN.{ℤ, pos, ◌+ℤ◌, ◌*ℤ◌, +ℤ_comm}
-use Rattle.basics.specs.Choice.{if◌then◌else◌}
+use Rattle.std.specs.Prelude.{if◌then◌else◌}
 use Rattle.basics.proofs.Test.{Member}
 use Rattle.basics.proofs.Integer.{nat, ◌⊕◌, ◌⊖◌, ◌⊗◌, ring}
 use Rattle.lattice.specs.declared.Sizes.{Sizes}

@@ -64,6 +64,7 @@ wound_use s r w x y z t P =
 
 -- nothing came before the first
 brings_first : {P : Vertex → Place} {w : Vertex} {E : Place} → Brings P [] w E → E ≡ P w
+brings_first (mixed o m _) = elim m [ ]
 brings_first (itself e) = e
 
 module _ {s : Sizes} {label : ℕ → Label} {byte : ℕ → ℕ} {place : ℕ → Place}

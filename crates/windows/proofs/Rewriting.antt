@@ -8,12 +8,11 @@ use Prim.Native.Nat.{ℕ, ◌+◌, ◌-◌, ◌≤◌, ◌<◌}
 use native.Mathlib.Omega.{arith}
 use mathlib.Core.Path.{◌≡◌, refl, sym, ap, ◌∙◌}
 use mathlib.Core.Logic.{inl, inr}
-use mathlib.Core.List.{List, map}
-use lib.ListN.{length, get_or, set, take, drop, length-set, length-map, length-take, length-drop}
+use mathlib.Core.List.{List}
+use lib.ListN.{length, get_or, set, take, drop, length-set, length-take, length-drop}
 use lib.ListN.{get_or-eq_default}
-use lib.Seq.{get_or-set_same, get_or-set_other, ext_get_or}
+use lib.Seq.{get_or-set_same, get_or-set_other}
 use Rattle.basics.proofs.Test.{lt_or}
-use Rattle.basics.proofs.Mapped.{map_at}
 use Rattle.basics.proofs.Part.{back, lent_at, back_long, back_before, back_within, back_after}
 use Rattle.windows.specs.inner.Windows.{Rewrites}
 

@@ -4,7 +4,6 @@ use mathlib.Core.Path.{◌≡◌, refl, sym, ◌∙◌}
 use mathlib.Core.Bool.{true, false}
 use Rattle.lattice.specs.declared.Sizes.{Sizes}
 use Rattle.lattice.specs.Counts.{sizes_fit, cells, points, tetrahedra}
-use Rattle.yakuemi.specs.declared.measures.Measures.{Measures}
 use Rattle.yakuemi.specs.Measures.{measure, sizes}
 
 pub measured : (s : Sizes) (p t : ℕ) → sizes_fit s ≡ true → p ≡ points s → t ≡ tetrahedra s

@@ -1,6 +1,5 @@
 -- Document 01, "Calls and refusals": "measures of a block (N and the count of lattice tetrahedra)"; "Measures: 1 only, with both numbers 0".
-use Rattle.std.specs.Prelude.{ℕ}
-use Rattle.basics.specs.Choice.{if◌then◌else◌}
+use Rattle.std.specs.Prelude.{ℕ, if◌then◌else◌}
 use Rattle.lattice.specs.declared.Sizes.{Sizes}
 use Rattle.lattice.specs.Counts.{sizes_fit, points, tetrahedra}
 use Rattle.yakuemi.specs.declared.measures.Measures.{Measures}

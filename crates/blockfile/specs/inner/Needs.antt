@@ -1,8 +1,7 @@
 -- How much of a block file must be held before more of it is known, and what a reader holds that asks for no more: so a
 -- program that reads files one after another never takes a byte past the end of one. `needs` is that count, `Held` what
 -- is held at a turn, `HeldIn` the same in a table.
-use Rattle.std.specs.Prelude.{ℕ, ◌<◌, ◌≤◌, ◌≡◌, ◌⊎◌, Bool, true, not, List, [], length, take, ltb}
-use Rattle.basics.specs.Choice.{if◌then◌else◌}
+use Rattle.std.specs.Prelude.{ℕ, ◌<◌, ◌≤◌, ◌≡◌, ◌⊎◌, Bool, true, not, List, [], length, take, ltb, if◌then◌else◌}
 use Rattle.lattice.specs.Counts.{sizes_fit, points}
 use Rattle.blockfile.specs.Format.{file_sizes, headers, first_byte, end, beyond}
 

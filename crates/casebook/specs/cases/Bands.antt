@@ -1,7 +1,6 @@
 -- Document 02, F-3: the given case with bands, and a rod of rubber that a point in the band splits. The theorem is `bands_come_out` in
 -- proofs/Cases.antt. T and M of the rod, and its first row, are what separate software gives (docs/src/reference/tests/band.rs).
-use Rattle.std.specs.Prelude.{ℕ, ◌*◌, ◌/◌, ◌%◌, List, [], ◌∷◌, map, ℤ, pos, neg_ℤ, replicate, set}
-use Rattle.basics.specs.Choice.{if◌then◌else◌}
+use Rattle.std.specs.Prelude.{ℕ, ◌*◌, ◌/◌, ◌%◌, List, [], ◌∷◌, map, ℤ, pos, neg_ℤ, replicate, set, if◌then◌else◌}
 use Rattle.basics.specs.Lists.{below}
 use Rattle.basics.specs.cases.Table.{Entry, ◌:=◌}
 use Rattle.lattice.specs.declared.Sizes.{Sizes}

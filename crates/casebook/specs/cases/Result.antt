@@ -1,6 +1,5 @@
 -- What is compared of a case: the answer, the whole state table, the row table as far as it must stay as lent, and the case's claims.
-use Rattle.std.specs.Prelude.{ℕ, ◌*◌, ◌-◌, List, map, get_or, drop, eqb}
-use Rattle.basics.specs.Choice.{if◌then◌else◌}
+use Rattle.std.specs.Prelude.{ℕ, ◌*◌, ◌-◌, List, map, get_or, drop, eqb, if◌then◌else◌}
 use Rattle.basics.specs.cases.Table.{entered}
 use Rattle.lattice.specs.Counts.{points, tetrahedra}
 use Rattle.moving.specs.Block.{Block}

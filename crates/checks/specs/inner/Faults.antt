@@ -7,8 +7,7 @@
 --     PointFine, LineFine, PointAnswered, LineAnswered     the answers for a point and for a line of points
 --     PartFine, PartAnswered, RestAnswered     the same for a part of a line, and for its rest
 --     Asked                  a decoded point of a block whose samples are all there
-use Rattle.std.specs.Prelude.{ℕ, ◌+◌, ◌*◌, ◌≤◌, ◌<◌, ◌≡◌, Bool, false, List, [], ◌∷◌, ℤ, length, get_or, eqb, ltb}
-use Rattle.basics.specs.Choice.{if◌then◌else◌}
+use Rattle.std.specs.Prelude.{ℕ, ◌+◌, ◌*◌, ◌≤◌, ◌<◌, ◌≡◌, Bool, false, List, [], ◌∷◌, ℤ, length, get_or, eqb, ltb, if◌then◌else◌}
 use Rattle.lattice.specs.declared.Sizes.{Sizes}
 use Rattle.lattice.specs.declared.Site.{Site}
 use Rattle.lattice.specs.Axis.{along_x}

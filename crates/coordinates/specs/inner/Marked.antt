@@ -2,8 +2,7 @@
 --     Stored                     what the tables of a block must be for an id to have a place
 --     AllPlaced, Unplaced        of some ids, those that pass have places, or one has none
 --     node_if                     the four numbers of an id that passes
-use Rattle.std.specs.Prelude.{ℕ, ◌+◌, ◌*◌, ◌<◌, ◌≡◌, Bool, true, List, [], length}
-use Rattle.basics.specs.Choice.{if◌then◌else◌}
+use Rattle.std.specs.Prelude.{ℕ, ◌+◌, ◌*◌, ◌<◌, ◌≡◌, Bool, true, List, [], length, if◌then◌else◌}
 use Rattle.lattice.specs.declared.Sizes.{Sizes}
 use Rattle.lattice.specs.Counts.{Sized, points}
 use Rattle.filling.specs.Located.{id_fault, locate}

@@ -1,7 +1,6 @@
 -- The tetrahedra between a cube and the next one along an axis, and what is written for them.
-use Rattle.std.specs.Prelude.{ℕ, ◌+◌, ◌*◌, ◌≤◌, ◌<◌, ◌≡◌, List, Bool, pos, eqb, length, get_or}
+use Rattle.std.specs.Prelude.{ℕ, ◌+◌, ◌*◌, ◌≤◌, ◌<◌, ◌≡◌, List, Bool, pos, eqb, length, get_or, if◌then◌else◌}
 use Rattle.std.specs.Int.Signed.{lt_z}
-use Rattle.basics.specs.Choice.{if◌then◌else◌}
 use Rattle.basics.specs.Lists.{gather, below}
 use Rattle.lattice.specs.Axis.{xyz}
 use Rattle.geometry.specs.Place.{Place}

@@ -1,8 +1,7 @@
 -- Document 01, "The bench program": what it prints, in bytes.
 --     printed    for an answer
 --     output     for all bytes of its input
-use Rattle.std.specs.Prelude.{ℕ, List, [], ◌∷◌, ◌++◌, pos, replicate, eqb}
-use Rattle.basics.specs.Choice.{if◌then◌else◌}
+use Rattle.std.specs.Prelude.{ℕ, List, [], ◌∷◌, ◌++◌, pos, replicate, eqb, if◌then◌else◌}
 use Rattle.text.specs.Text.{ascii, decimal, line}
 use Rattle.fill_file.specs.declared.Summary.{Summary}
 use Rattle.fill_file.specs.program.Summary.{bench_points, bench_cuts, bench_rows, summary}

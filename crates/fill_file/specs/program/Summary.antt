@@ -1,6 +1,5 @@
 -- Document 01, "The bench program": what it prints for one block file, and what it leaves in its tables.
-use Rattle.std.specs.Prelude.{ℕ, ◌*◌, List, ◌++◌, ℤ, take, drop, eqb}
-use Rattle.basics.specs.Choice.{if◌then◌else◌}
+use Rattle.std.specs.Prelude.{ℕ, ◌*◌, List, ◌++◌, ℤ, take, drop, eqb, if◌then◌else◌}
 use Rattle.lattice.specs.declared.Sizes.{Sizes}
 use Rattle.lattice.specs.Counts.{points}
 use Rattle.moving.specs.Block.{block_of}

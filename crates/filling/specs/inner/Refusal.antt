@@ -2,8 +2,7 @@
 -- 10 stands in Fill and in Nodes, 11 and 12 in Format, 13 in Millimetres; the measures call asks its 1 itself.
 --     Refusal, first_of, found    a refusal; the first of a list that applies; one that a search looks for
 --     wrong_sizes .. wrong_id      1, 2, 3, 4, 5, 6 or 7, 14, 15, 8 or 9
-use Rattle.std.specs.Prelude.{ℕ, ◌*◌, ◌%◌, Bool, not, List, [], ◌∷◌, ℤ, length, ltb, eqb}
-use Rattle.basics.specs.Choice.{if◌then◌else◌}
+use Rattle.std.specs.Prelude.{ℕ, ◌*◌, ◌%◌, Bool, not, List, [], ◌∷◌, ℤ, length, ltb, eqb, if◌then◌else◌}
 use Rattle.lattice.specs.declared.Sizes.{Sizes}
 use Rattle.lattice.specs.Counts.{sizes_fit, points}
 use Rattle.moving.specs.declared.Label.{Label}

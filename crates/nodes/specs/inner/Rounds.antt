@@ -4,8 +4,7 @@
 --     Found, Surveyed            the first round: a window, and those from one on
 --     Kept, Filled               the node table, whose part that is still to be written may hold anything
 --     settled, Reached, Assigned the second round, with the windows before one done
-use Rattle.std.specs.Prelude.{ℕ, ◌+◌, ◌*◌, ◌≤◌, ◌<◌, ◌≡◌, List, T, ltb, length, get_or}
-use Rattle.basics.specs.Choice.{if◌then◌else◌}
+use Rattle.std.specs.Prelude.{ℕ, ◌+◌, ◌*◌, ◌≤◌, ◌<◌, ◌≡◌, List, T, ltb, length, get_or, if◌then◌else◌}
 use Rattle.basics.specs.Lists.{gather, below}
 use Rattle.lattice.specs.declared.Sizes.{Sizes}
 use Rattle.filling.specs.Located.{id_fault}

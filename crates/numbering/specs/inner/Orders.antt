@@ -1,6 +1,5 @@
 -- The refusals of the node call, in its order, as a list. `numbering/proofs/Listed`: the call is what its list says.
-use Rattle.std.specs.Prelude.{ℕ, List, [], ◌∷◌, ◌*◌, not, length, get_or, leb}
-use Rattle.basics.specs.Choice.{if◌then◌else◌}
+use Rattle.std.specs.Prelude.{ℕ, List, [], ◌∷◌, ◌*◌, not, length, get_or, leb, if◌then◌else◌}
 use Rattle.lattice.specs.declared.Sizes.{Sizes}
 use Rattle.filling.specs.inner.Refusal.{Refusal, wrong_sizes, wrong_cuts, wrong_state, wrong_rows, wrong_entry}
 use Rattle.filling.specs.Located.{id_fault}

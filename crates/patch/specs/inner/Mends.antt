@@ -5,8 +5,7 @@
 --     seven_due, point_due, table_due    the same of a point's seven bytes, as the code has them and by directions, and of a table
 --     Ends                            what the code asks of the edges from a point
 --     FineTo                          points of a line that have no byte at fault
-use Rattle.std.specs.Prelude.{ℕ, ◌+◌, ◌*◌, ◌/◌, ◌%◌, ◌≤◌, ◌<◌, ◌≡◌, Bool, true, false, List, ℤ, length, get_or, eqb}
-use Rattle.basics.specs.Choice.{if◌then◌else◌}
+use Rattle.std.specs.Prelude.{ℕ, ◌+◌, ◌*◌, ◌/◌, ◌%◌, ◌≤◌, ◌<◌, ◌≡◌, Bool, true, false, List, ℤ, length, get_or, eqb, if◌then◌else◌}
 use Rattle.basics.specs.Lists.{count}
 use Rattle.lattice.specs.declared.Sizes.{Sizes}
 use Rattle.lattice.specs.declared.Near.TheVariants.{At}

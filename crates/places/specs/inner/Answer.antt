@@ -1,7 +1,6 @@
 -- The place call in the parts that the code has: among tables of the right lengths, what it answers for a point and for a cut.
 -- That these are `locate` of crates/filling is shown in proofs/Answers.antt.
-use Rattle.std.specs.Prelude.{ℕ, ◌/◌, ◌%◌, List, get_or}
-use Rattle.basics.specs.Choice.{if◌then◌else◌}
+use Rattle.std.specs.Prelude.{ℕ, ◌/◌, ◌%◌, List, get_or, if◌then◌else◌}
 use Rattle.lattice.specs.declared.Sizes.{Sizes}
 use Rattle.lattice.specs.declared.Near.{Near}
 use Rattle.lattice.specs.declared.Near.TheVariants.{At, Nothing}

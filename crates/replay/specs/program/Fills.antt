@@ -3,8 +3,7 @@
 -- Head, by offset: 0 the kind, 4 the length of the body; 8 samples, 12 cut bytes, 16 state bytes, 20 row numbers lent, 24 ids stated; 28 what every
 -- entry of the row table holds beforehand, its low byte what every state byte does; 32 number, 36 T, 40 M, 44 place answered.
 -- Body: three size bytes and the samples as in a block file, the cut bytes, the state table after the call, the ids written, two bytes each.
-use Rattle.std.specs.Prelude.{ℕ, ◌+◌, ◌*◌, Bool, false, not, ◌&&◌, List, ℤ, length, take, drop, replicate, eqb, leb}
-use Rattle.basics.specs.Choice.{if◌then◌else◌}
+use Rattle.std.specs.Prelude.{ℕ, ◌+◌, ◌*◌, Bool, false, not, ◌&&◌, List, ℤ, length, take, drop, replicate, eqb, leb, if◌then◌else◌}
 use Rattle.lattice.specs.Counts.{most_points}
 use Rattle.moving.specs.Block.{Block, block_of}
 use Rattle.filling.specs.declared.Filled.{Filled}

@@ -2,8 +2,7 @@
 --
 -- Head, by offset: 0 the kind, 4 the length of the body; 8 cut bytes, 12 state bytes, 16 questions; 32 number answered; else zeros.
 -- Body: three size bytes, the cut bytes, the state bytes, and for each question the id in four bytes and the place answered, two bytes a coordinate.
-use Rattle.std.specs.Prelude.{ℕ, zero, suc, ◌+◌, ◌*◌, Bool, true, false, ◌&&◌, List, length, take, drop, eqb}
-use Rattle.basics.specs.Choice.{if◌then◌else◌}
+use Rattle.std.specs.Prelude.{ℕ, zero, suc, ◌+◌, ◌*◌, Bool, true, false, ◌&&◌, List, length, take, drop, eqb, if◌then◌else◌}
 use Rattle.lattice.specs.declared.Sizes.{Sizes}
 use Rattle.filling.specs.declared.Placed.{Placed}
 use Rattle.filling.specs.Located.{locate}

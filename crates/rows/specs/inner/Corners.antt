@@ -1,12 +1,11 @@
 -- Corners of rows as the code holds them: their ids, and which corner of a tetrahedron they are.
-use Rattle.std.specs.Prelude.{ℕ, zero, suc, ◌+◌, ◌*◌, ◌<◌, Bool, List, [], ◌∷◌, ltb}
-use Rattle.basics.specs.Choice.{if◌then◌else◌}
+use Rattle.std.specs.Prelude.{ℕ, zero, suc, ◌+◌, ◌*◌, ◌<◌, Bool, List, [], ◌∷◌, ltb, if◌then◌else◌}
 use Rattle.lattice.specs.Axis.{Axis, along_x, along_y, along_z}
 use Rattle.lattice.specs.Counts.{largest}
 use Rattle.lattice.specs.Direction.{direction_of}
 use Rattle.lattice.specs.Edge.{byte_at}
 use Rattle.stencil.specs.Tetrahedron.{Vertex, v0, v1, v2, v3, Quarter, q0, q1, q2, q3}
-use Rattle.stencil.specs.Stencil.{between, rank}
+use Rattle.stencil.specs.Stencil.{rank}
 use Rattle.stencil.specs.Id.{code_between, start_of}
 use Rattle.rows.specs.declared.Corner.{Corner}
 use Rattle.rows.specs.declared.Corner.TheVariants.{Point, Edge}

@@ -1,6 +1,5 @@
 -- The corners of a tetrahedron in the order of the table, by the weights of their labels.
-use Rattle.std.specs.Prelude.{ℕ, ◌+◌, ◌%◌, Bool, ltb, eqb}
-use Rattle.basics.specs.Choice.{if◌then◌else◌}
+use Rattle.std.specs.Prelude.{ℕ, ◌+◌, ◌%◌, Bool, ltb, eqb, if◌then◌else◌}
 use Rattle.moving.specs.declared.Label.{Label}
 use Rattle.moving.specs.declared.Label.TheVariants.{Minus, Zero, Plus}
 use Rattle.rows.specs.declared.Weights.{Weights}

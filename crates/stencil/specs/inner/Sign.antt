@@ -6,9 +6,8 @@
 --   even     is an order of numbers even
 --   signed   a row, its last two corners exchanged where it would not wind as said
 --   winds    how the corners of a lattice tetrahedron wind, by its edge
-use Rattle.std.specs.Prelude.{ℕ, Bool, true, false, not, ◌||◌, List, [], ◌∷◌, map, ltb, eqb}
+use Rattle.std.specs.Prelude.{ℕ, Bool, true, false, not, ◌||◌, List, [], ◌∷◌, map, ltb, eqb, if◌then◌else◌}
 use Rattle.std.specs.Bool.{beq}
-use Rattle.basics.specs.Choice.{if◌then◌else◌}
 use Rattle.stencil.specs.Tetrahedron.{Vertex, Quarter, q0, q1, q2, q3}
 use Rattle.stencil.specs.Row.{Row, row, swapped}
 use Rattle.stencil.specs.Stencil.{Entry, point, between, rank}

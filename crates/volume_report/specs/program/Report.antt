@@ -2,8 +2,7 @@
 --     entry_of     the numbers of the file that starts the bytes
 --     line_of      its line
 --     report      all lines, for all bytes
-use Rattle.std.specs.Prelude.{ℕ, zero, suc, ◌+◌, ◌*◌, Bool, not, ◌||◌, List, [], ◌∷◌, map, pos, nat_abs, take, drop, replicate, eqb}
-use Rattle.basics.specs.Choice.{if◌then◌else◌}
+use Rattle.std.specs.Prelude.{ℕ, zero, suc, ◌+◌, ◌*◌, Bool, not, ◌||◌, List, [], ◌∷◌, map, pos, nat_abs, take, drop, replicate, eqb, if◌then◌else◌}
 use Rattle.lattice.specs.declared.Sizes.{Sizes}
 use Rattle.lattice.specs.Counts.{points}
 use Rattle.geometry.specs.Place.{place_of}

@@ -8,8 +8,7 @@
 --     Marks, Windowed            the ids of some rows that are in a window are marked
 --     in_window, put_in, look_in    an id of a window becomes its number, counted or looked up
 --     Unrolled, Rewrites         the table of a window's numbers; a table rewritten
-use Rattle.std.specs.Prelude.{ℕ, ◌+◌, ◌*◌, ◌-◌, ◌/◌, ◌≤◌, ◌<◌, ◌≡◌, true, false, ◌||◌, List, length, get_or, ltb, leb}
-use Rattle.basics.specs.Choice.{if◌then◌else◌}
+use Rattle.std.specs.Prelude.{ℕ, ◌+◌, ◌*◌, ◌-◌, ◌/◌, ◌≤◌, ◌<◌, ◌≡◌, true, false, ◌||◌, List, length, get_or, ltb, leb, if◌then◌else◌}
 use Rattle.basics.specs.Lists.{count}
 use Rattle.bitmap.specs.inner.Bits.{marked}
 use Rattle.numbering.specs.Nodes.{used}

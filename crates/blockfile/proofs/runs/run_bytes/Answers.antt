@@ -1,0 +1,16 @@
+-- After i runs, their bytes and those of the rest make the whole. Assumes nothing.
+use native.Mathlib.Omega.{arith}
+use Rattle.blockfile.proofs.Fitting.{summed_first, summed_next, summed_all}
+use Rattle.blockfile.proofs.runs.run_bytes.Goals as goal
+
+pub loop-i-init : goal.loop-i-init
+loop-i-init c = summed_first
+
+pub loop-i-preserved : goal.loop-i-preserved
+loop-i-preserved c = summed_next c.loop-i.invariant c.loop-i-test.true c.two_at-sum.ensures.value c.two_at-sum.ensures.upper_bound
+
+pub returns : goal.returns
+returns c = record {
+  value = summed_all c.loop-i.invariant c.loop-i-test.false;
+  upper_bound = omega arith;
+}

@@ -1,0 +1,16 @@
+-- What is left of the samples, written, gives all of them. Assumes nothing.
+use Prim.Native.Nat.{◌+◌, ◌*◌, ◌-◌, ◌≤◌}
+use mathlib.Core.Path.{◌≡◌}
+use lib.ListN.{length}
+use lib.Seq.{sets}
+use Rattle.blockfile.specs.Format.{samples_from}
+use Rattle.blockfile.proofs.samples.write_samples.Given as goal
+
+abbrev pub invariant-loop-i : goal.invariant-loop-i
+invariant-loop-i l =
+    (l.i ≤ l.n)
+    × (length l.samples ≡ length l.initial.samples)
+    × (sets l.samples l.i (samples_from l.bytes (3 + 2 * l.i) (l.n - l.i)) ≡ sets l.initial.samples 0 (samples_from l.bytes 3 l.n))
+
+abbrev pub decreases-loop-i : goal.decreases-loop-i
+decreases-loop-i l = l.n - l.i
