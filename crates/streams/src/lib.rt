@@ -1,6 +1,9 @@
 // Reading a table full from a reader.
 #![tactic(auto)]
 
+#[cfg(test)]
+mod tests;
+
 ghost use Rattle.std.specs.Prelude.{◌≡◌, ◌<◌, length, take, None, IfSome, IfOk};
 ghost use Rattle.std.specs.Io.KnownBytes.{Consumes, IsAtEnd};
 ghost use Rattle.text.specs.inner.Counts.{IsPrefixLen};

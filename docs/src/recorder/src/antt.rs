@@ -28,7 +28,7 @@ pub fn example(title: &str, call: &Call, outcome: &Outcome, questions: &[Questio
     let ids = &outcome.rows[..written.unwrap_or(outcome.rows.len())];
     let lent = outcome.state.iter().all(|&code| code == LENT_STATE);
     let state = if lent {
-        "      state = as-lent;\n".to_string()
+        "      state = as_lent;\n".to_string()
     } else {
         field(
             "state",
@@ -39,14 +39,14 @@ pub fn example(title: &str, call: &Call, outcome: &Outcome, questions: &[Questio
     let mut text = format!("{title}\n    record {{\n");
     text += &format!("      sizes = record {{ nx = {nx}; ny = {ny}; nz = {nz} }};\n");
     text += &field("samples", "", &samples(&call.block.samples));
-    text += &format!("      cutsLength = {};\n", call.block.cuts.len());
+    text += &format!("      cuts_length = {};\n", call.block.cuts.len());
     text += &field(
         "cuts",
         "",
         &entries(call.block.cuts.iter().map(|&t| t.into())),
     );
-    text += &format!("      stateLength = {};\n", call.state_length);
-    text += &format!("      rowsLength = {};\n", call.row_length);
+    text += &format!("      state_length = {};\n", call.state_length);
+    text += &format!("      rows_length = {};\n", call.row_length);
     text += &format!(
         "      answer = record {{ number = {}; rows = {}; moved = {}; place = {} }};\n",
         answer.number, answer.rows, answer.moved, answer.place
@@ -122,10 +122,9 @@ fn wrapped(items: &[String], indent: usize) -> String {
 const HEAD: &str = "\
 -- Blocks that separate software filled too, with all that it answered and wrote. Written by docs/src/recorder from the reference in
 -- docs/src/reference, which says how labels and cut bytes are mixed (generate.rs); the theorem is `agrees` in proofs/Agree.antt.
-use mathlib.Core.List.{List, [], _∷_}
-use lib.IntN.{pos}
-use Rattle·basics.specs.cases.Table.{_:=_}
-use Rattle·casebook·specs.specs.cases.Lent.{as-lent, codes}
-use Rattle·casebook·specs.specs.cases.Example.{Example, neg, ask}
+use Rattle.std.specs.Prelude.{List, [], ◌∷◌, pos}
+use Rattle.basics.specs.cases.Table.{◌:=◌}
+use Rattle.casebook.specs.cases.Lent.{as_lent, codes}
+use Rattle.casebook.specs.cases.Example.{Example, neg, ask}
 
 ";

@@ -98,10 +98,10 @@ fn recorded(block: &Block, state: &[u8], question: &Question) -> [String; 2] {
 const HEAD: &str = "\
 -- Document 02, F-1: corners of the first row of document 01's given case, in millimetres, at units 1, 1/512 and 0.1; the ends of the
 -- unit's range; refusals that come before 13. Written by docs/src/recorder from the reference in docs/src/reference; the theorem is
--- `millimetres-come-out` in proofs/Millimetres.antt.
-use mathlib.Core.List.{List, [], _∷_}
-use Rattle·basics.specs.cases.Table.{_:=_}
-use Rattle·casebook·specs.specs.cases.Metric.{Question, ask}
+-- `millimetres_come_out` in proofs/Millimetres.antt.
+use Rattle.std.specs.Prelude.{List, [], ◌∷◌}
+use Rattle.basics.specs.cases.Table.{◌:=◌}
+use Rattle.casebook.specs.cases.Metric.{Question, ask}
 
 unfoldable pub millimetres : List Question
 millimetres =
