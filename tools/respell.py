@@ -14,7 +14,7 @@ import re
 import sys
 
 WORD = re.compile(r"(?<![^\s(){}\[\].,;:`«»@'\"])[^\s(){}\[\].,;:`«»@\"]+")
-DECLARED = re.compile(r"\s*(?:(?:pub|abbrev|unfoldable)\s+)*((?:[^\s(){}.,;:=]+ )*?[^\s(){}.,;:=]+)(?: \{[^}]*\})?\s+:\s")
+DECLARED = re.compile(r"\s*(?:(?:pub|abbrev|unfoldable)\s+)*((?:[^\s(){}.,;:=]+ )*?[^\s(){}.,;:=]+)(?: \{[^}]*\})?\s+:(?:\s|$)")
 PROOFS = ("Proof.antt", "Invariants.antt", "Answers.antt")
 
 

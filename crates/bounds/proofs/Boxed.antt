@@ -38,10 +38,10 @@ spans a e v c =
     let x = doubled (kind v) (offset a e v c) in
     leb (unit a c) x & leb x (unit a c + 2)
 
-all-span :
+all_span :
     Tested (the_axes ⊗ the_quarters ⊗ the_vertices ⊗ the_axes) (λ x. spans x.0 x.1.0 x.1.1.0 x.1.1.1)
 unfolding ◌&◌ spans offset around unit
-all-span = record { passed = tt }
+all_span = record { passed = tt }
 
 module _ (t : Tetrahedron) where
   unfoldable pub lowest : Axis → ℕ
@@ -51,7 +51,7 @@ module _ (t : Tetrahedron) where
       → (unit t.axis a ≤ counted t v a) × (counted t v a ≤ unit t.axis a + 2)
   unfolding spans
   counted_between v a =
-      let s = tested all-span (t.axis, (t.edge, (v, a))) in
+      let s = tested all_span (t.axis, (t.edge, (v, a))) in
       (leb→le _ _ (and_l _ _ s), leb→le _ _ (and_r _ _ s))
 
   moved_between : (v : Vertex) (p : Place) → Moved (kind v) (corner t v) p → (a : Axis) → Between (lowest a) (p a)

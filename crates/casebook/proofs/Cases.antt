@@ -62,10 +62,10 @@ unfolding
 marks_come_out = refl
 
 -- document 02, F-9: filling and mending
-pub kinds-come-out :
+pub kinds_come_out :
     (map computed kinds ≡ map expected kinds)
     × (map (λ m. mend m.band m.block) remendings ≡ map (λ m. m.outcome) remendings)
 unfolding
     definitions size_of rounded held byte_to mended_byte faults mend
     laid laid_runs given_samples given_cuts all_entered all_sampled firm kinds remendings computed expected found result_of
-kinds-come-out = (refl, refl)
+kinds_come_out = (refl, refl)

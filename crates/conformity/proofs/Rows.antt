@@ -23,14 +23,14 @@ use Rattle.geometry.specs.Place.{Place}
 use Rattle.filling.specs.Mesh.{row_volume, labels_in, rows_in, rows_over}
 use Rattle.filling.specs.Demand.{nth_row}
 use Rattle.volumes.proofs.Sound.{Sound}
-use Rattle.volumes.proofs.Volumes.{oriented-rows, positive}
+use Rattle.volumes.proofs.Volumes.{oriented_rows, positive}
 use Rattle.faces.proofs.Signed.{signed_in, signed_rows}
 
 module _ {s : Sizes} {label : ℕ → Label} {byte : ℕ → ℕ} {place : ℕ → Place} (sound : Sound s label byte place) where
   pub mesh_is : rows_over s label place ≡ signed_rows s label
   unfolding rows_over rows_in signed_rows signed_in
   mesh_is =
-      gather_same (rows_in s label place) (signed_in s label) (tetrahedra_of s) (λ t m. oriented-rows sound t (listed_valid s t m))
+      gather_same (rows_in s label place) (signed_in s label) (tetrahedra_of s) (λ t m. oriented_rows sound t (listed_valid s t m))
 
   -- a row of one tetrahedron
   row_positive : (t : Tetrahedron) → Valid s t → (r : ℕ) → r < length (signed_in s label t)

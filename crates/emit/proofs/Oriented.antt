@@ -24,7 +24,7 @@ use Rattle.stencil.proofs.Listed.{listed_valid}
 use Rattle.geometry.specs.Place.{Place, place_of}
 use Rattle.filling.specs.Mesh.{labels_in, oriented, rows_in, rows_over, mesh_of, table}
 use Rattle.volumes.proofs.Sound.{Sound}
-use Rattle.volumes.proofs.Volumes.{oriented-rows}
+use Rattle.volumes.proofs.Volumes.{oriented_rows}
 use Rattle.emit.specs.inner.Mesh.{signed_rows, row_total, signed_table}
 
 gather_long : {A B : Type 0} (f g : A → List B) (l : List A) → ((x : A) → length (f x) ≡ length (g x))
@@ -51,7 +51,7 @@ module _ (s : Sizes) (label : ℕ → Label) (place : ℕ → Place) where
   module _ {byte : ℕ → ℕ} (Q : Sound s label byte place) where
     oriented_in : (t : Tetrahedron) → Valid s t → rows_in s label place t ≡ signed_rows s label t
     unfolding rows_in signed_rows
-    oriented_in t h = oriented-rows Q t h
+    oriented_in t h = oriented_rows Q t h
 
     pub rows_are : table (rows_over s label place) ≡ signed_table s label
     unfolding rows_over signed_table

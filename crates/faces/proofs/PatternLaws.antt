@@ -223,8 +223,8 @@ module _ (s : Bool) (l : Vertex → Label) where
       let y = any_find (Shows-in x.0) the_vertices.all x.2 in
       let f : Face (Entry Vertex) = face_for s l x.0 y.0 in
       let o : List ℕ = others (signed_for s l) x.0 f in
-      let is-it : Third → Bool = λ t. same_face f (lift q (cycled t (shown s l q n))) in
-      let z = any_find is-it the_thirds.all (and_r (alone o) _ y.2) in
+      let is_it : Third → Bool = λ t. same_face f (lift q (cycled t (shown s l q n))) in
+      let z = any_find is_it the_thirds.all (and_r (alone o) _ y.2) in
       record {
         r = x.0;
         v = y.0;

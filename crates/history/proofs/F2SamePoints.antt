@@ -133,15 +133,15 @@ module _ {m : Reading} {f g : List ℕ → ℕ → ℕ} (F : Chooser m f) (G : C
           → (get_or (turn f (after f s p) p) p 0 ≡ get_or (turn g (after g s p) p) p 0) ⊎ TwoViolate m (after g s p) p
       go (inl e) = inl (entry f ∙ ap (λ (c : ℕ). entry_of c (get_or s p 0)) e ∙ sym (entry g))
       go (inr n) =
-          let some-f : f (after f s p) p ≡ 0 → ⊥ = λ z. n (z ∙ sym (same_none F G h p l z)) in
-          let some-g : g (after g s p) p ≡ 0 → ⊥ = λ z. n (same_none G F (other_way h) p l z ∙ sym z) in
+          let some_f : f (after f s p) p ≡ 0 → ⊥ = λ z. n (z ∙ sym (same_none F G h p l z)) in
+          let some_g : g (after g s p) p ≡ 0 → ⊥ = λ z. n (same_none G F (other_way h) p l z ∙ sym z) in
           inr
           (record {
             c = f (after f s p) p;
             e = g (after g s p) p;
             two = n;
-            one = same_may_move m h (F.sound (after f s p) p l some-f);
-            other = G.sound (after g s p) p l some-g;
+            one = same_may_move m h (F.sound (after f s p) p l some_f);
+            other = G.sound (after g s p) p l some_g;
           })
 
   pub same_byte : (n p : ℕ) → n ≤ points m.sizes

@@ -1,8 +1,8 @@
 -- F-9, "Band before rim", compared: the calls of the casebook's F-9 cases (casebook/specs/cases/BandFirst) by filling and mending as they
--- stood directly before F-9 (`fill_raw`, F9Raw; `mend_raw`, F9Mending). What they answer today is `kinds-come-out`, casebook/proofs/Cases.
+-- stood directly before F-9 (`fill_raw`, F9Raw; `mend_raw`, F9Mending). What they answer today is `kinds_come_out`, casebook/proofs/Cases.
 -- Assumes nothing.
 --     answers_before, mended_before   what came out then, call by call
---     kinds-before                  it does by these definitions
+--     kinds_before                  it does by these definitions
 use mathlib.Core.Path.{◌≡◌, refl}
 use mathlib.Core.List.{List, [], ◌∷◌, map}
 use Rattle.basics.specs.cases.Table.{◌:=◌}
@@ -74,10 +74,10 @@ mended_before =
     ∷ outcome_of 0 0 0 given_cuts
     ∷ []
 
-pub kinds-before :
+pub kinds_before :
     (map computed_before kinds ≡ map expected (with_answers kinds answers_before)) × (map (λ m. mend_raw m.block) remendings ≡ mended_before)
 unfolding
     definitions sign_of signs fill_raw size_of rounded held byte_to mended_byte faults mend_raw
     laid laid_runs given_samples given_cuts all_entered all_sampled firm kinds remendings
     answers_before with_answers mended_before expected found result_of
-kinds-before = (refl, refl)
+kinds_before = (refl, refl)

@@ -21,9 +21,9 @@ bytes_to p c (At q) = edge_byte p c q ∷ []
 unfoldable pub bytes_of : Sizes → ℕ → List ℕ
 bytes_of s p = gather (λ c. bytes_to p c (neighbour s p c)) (from 1 14)
 
-pub directions-fit :
+pub directions_fit :
     bytes_of (record { nx = 2; ny = 2; nz = 2 }) 13 ≡ from 91 7 ++ (84 ∷ 71 ∷ 30 ∷ 192 ∷ 200 ∷ 208 ∷ 216 ∷ [])
 unfolding
     bytes_of bytes_to gather from near edge_byte stays_in far_kind far_index directions direction long is_start direction_of step
     kind_of cells cell linear
-directions-fit = refl
+directions_fit = refl

@@ -1,7 +1,7 @@
 -- Labels by bands: document 02's F-3 by itself. Assumes nothing. (Files are checked in the order of their names: this one first, so that a
 -- wrong label is refused by what it gives.)
---     in-bands           samples at, above and below a band
---     by-the-largest     by the band 32767 only -32768 is not zero
+--     in_bands           samples at, above and below a band
+--     by_the_largest     by the band 32767 only -32768 is not zero
 --     bands_taken        which bands fit
 use mathlib.Core.Path.{◌≡◌, refl}
 use mathlib.Core.Bool.{true, false}
@@ -15,7 +15,7 @@ use Rattle.moving.specs.Label.{label_of, band_fits}
 abbrev by_three : ℤ → List Label
 by_three a = label_of 0 a ∷ label_of 4 a ∷ label_of 5 a ∷ []
 
-pub in-bands :
+pub in_bands :
     map by_three (pos 0 ∷ pos 1 ∷ pos 4 ∷ pos 5 ∷ pos 6 ∷ neg_ℤ (pos 1) ∷ neg_ℤ (pos 4) ∷ neg_ℤ (pos 5) ∷ neg_ℤ (pos 6) ∷ [])
     ≡ (Zero ∷ Zero ∷ Zero ∷ [])
     ∷ (Plus ∷ Zero ∷ Zero ∷ [])
@@ -28,13 +28,13 @@ pub in-bands :
     ∷ (Minus ∷ Minus ∷ Minus ∷ [])
     ∷ []
 unfolding label_of
-in-bands = refl
+in_bands = refl
 
 -- by the largest band every sample is zero but -32768, whose size is 32,768
-pub by-the-largest :
+pub by_the_largest :
     map (label_of 32767) (pos 32767 ∷ neg_ℤ (pos 32767) ∷ neg_ℤ (pos 32768) ∷ []) ≡ Zero ∷ Zero ∷ Minus ∷ []
 unfolding label_of
-by-the-largest = refl
+by_the_largest = refl
 
 -- "a band from 0 to 32767"
 pub bands_taken : map band_fits (0 ∷ 32767 ∷ 32768 ∷ []) ≡ true ∷ true ∷ false ∷ []

@@ -119,11 +119,11 @@ module _ {s : Sizes} {label : ℕ → Label} {byte : ℕ → ℕ} {place : ℕ �
 
     -- the volume identity: 256³ times a row's six-volume is a positive number times that of its corners, in the order
     -- in which they come
-    pub volume-identity :
+    pub volume_identity :
         Share (256 * 256 * 256) (row_volume place (map_row (id_of s t) r))
         (six_volume (at (corners 0)) (at (corners 1)) (at (corners 2)) (at (corners 3)))
     unfolding built
-    volume-identity = built_share r (corners 0) (corners 1) (corners 2) (corners 3) (and_l _ _ passed)
+    volume_identity = built_share r (corners 0) (corners 1) (corners 2) (corners 3) (and_l _ _ passed)
 
     wound_by : (b : Bool) → T (wound_of b r (corners 0) (corners 1) (corners 2) (corners 3))
     unfolding built
@@ -134,7 +134,7 @@ module _ {s : Sizes} {label : ℕ → Label} {byte : ℕ → ℕ} {place : ℕ �
     pub row_sign : pos 0 <ℤ turned_by (beq (winds t.edge) (is_even r)) (row_volume place (map_row (id_of s t) r))
     unfolding built corner_number
     row_sign =
-        share_positive (share_turned (beq (winds t.edge) (is_even r)) volume-identity)
+        share_positive (share_turned (beq (winds t.edge) (is_even r)) volume_identity)
         (subst (λ (v : ℤ). pos 0 <ℤ v)
         (wound_use (winds t.edge) r (corners 0) (corners 1) (corners 2) (corners 3) (wound_by (winds t.edge)) at)
         (keeps t at (λ v. Q.moves (kind v) (corner t v) (corner_inside s t h v)) (corners 0)

@@ -69,10 +69,10 @@ module _ {s : Sizes} {label : ℕ → Label} {byte : ℕ → ℕ} {place : ℕ �
 
   -- "The last two corners change places exactly if the six-volume would be negative": exactly if the type and the
   -- pattern's row say so
-  pub oriented-rows :
+  pub oriented_rows :
       map (oriented place) (map (map_row (id_of s t)) rows) ≡ map (map_row (id_of s t)) (map (signed (winds t.edge)) rows)
   unfolding signed
-  oriented-rows =
+  oriented_rows =
       map-map (oriented place) (map_row (id_of s t)) rows
       ∙ map_same (λ r. oriented place (map_row (id_of s t) r)) (λ r. map_row (id_of s t) (signed (winds t.edge) r)) rows
       (λ r m. oriented_by place (id_of s t) (beq (winds t.edge) (is_even r)) r (row_sign Q t h r m))

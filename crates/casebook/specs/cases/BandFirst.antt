@@ -1,5 +1,5 @@
 -- Document 02, F-9, "Band before rim": samples in the band on the rim and beside rubber, and what filling and mending answer. The theorem
--- is `kinds-come-out` in proofs/Cases.antt. Separate software gives the same answers; such cases by hand are in
+-- is `kinds_come_out` in proofs/Cases.antt. Separate software gives the same answers; such cases by hand are in
 -- docs/src/reference/tests/band_first.rs.
 use Rattle.std.specs.Prelude.{ℕ, List, [], ◌∷◌, pos, neg_ℤ, replicate, set}
 use Rattle.basics.specs.cases.Table.{Entry, ◌:=◌, table_of}

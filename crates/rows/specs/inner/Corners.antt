@@ -77,7 +77,7 @@ point_at t v = Point (number_at t v)
 
 -- the cut between two corners of a tetrahedron of a kind: the code from the lower corner to the higher one, the start and
 -- the direction
-abbrev pub lower_first {ℓ} : {A : Type ℓ} → Vertex → Vertex → (Vertex → Vertex → A) → A
+abbrev pub lower_first : {A : Type 0} → Vertex → Vertex → (Vertex → Vertex → A) → A
 lower_first u v f = if ltb (rank u) (rank v) then f u v else f v u
 
 unfoldable pub start_between : Axis → Quarter → Vertex → Vertex → Vertex

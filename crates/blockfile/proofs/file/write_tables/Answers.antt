@@ -1,4 +1,4 @@
--- The parts of a well_formed_law file are within it, and both tables are written from them. Assumes nothing.
+-- The parts of a well-formed file are within it, and both tables are written from them. Assumes nothing.
 use native.Mathlib.Omega.{arith}
 use Rattle.blockfile.proofs.Parts.{well_formed_law, first_end, counted, file_cuts_law}
 use Rattle.blockfile.proofs.file.write_tables.Goals as goal
