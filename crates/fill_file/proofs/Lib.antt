@@ -1,4 +1,5 @@
-pub mod AExamples
+pub mod ATextExamples
+pub mod Examples
 pub mod Counted
 pub mod Outcome
 pub mod Buffer

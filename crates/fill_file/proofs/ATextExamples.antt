@@ -8,10 +8,10 @@ use Rattle.blockfile.proofs.Opened.{format}
 use Rattle.text.specs.Text.{digits_within, decimal, line}
 use Rattle.fill_file.specs.program.Summary.{refusal, counted, fill_read, summary}
 use Rattle.fill_file.specs.program.Printed.{count_lines, printed, output}
-use Rattle.fill_file.specs.cases.Examples.{examples, comes, due}
+use Rattle.fill_file.specs.cases.TextExamples.{text_examples, comes, due}
 
-pub examples_come_out : map comes examples ≡ map due examples
+pub texts_come_out : map comes text_examples ≡ map due text_examples
 unfolding
     definitions laid laid_runs given_samples given_cuts changed format measure refusal counted fill_read summary
-    digits_within decimal line count_lines printed output examples
-examples_come_out = refl
+    digits_within decimal line count_lines printed output text_examples
+texts_come_out = refl
