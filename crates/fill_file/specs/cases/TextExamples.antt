@@ -28,7 +28,7 @@ text_examples =
     ∷ []
 
 abbrev pub comes : TextExample → List ℕ
-comes (prints bytes text) = output bytes
+comes (writes bytes text) = output bytes
 
 abbrev pub due : TextExample → List ℕ
-due (prints bytes text) = ascii text
+due (writes bytes text) = ascii text

@@ -1,0 +1,26 @@
+-- A field, a word and two fields. Assumes nothing.
+use native.Mathlib.Omega.{arith}
+use mathlib.Core.List.{[]}
+use lib.ListN.{take}
+use Rattle.text.specs.Text.{ascii, decimal}
+use Rattle.text.proofs.Fields.{then_more, then_last}
+use borrow.Author.Rules.{rules}
+use Rattle.volume_report.proofs.lines.write_refusal.Goals as goal
+
+pub returns : goal.returns
+returns c =
+    let p1 = c.put_field-a in
+    let word = c.put-b in
+    let p2 = c.put_field-c in
+    let p3 = c.put_field in
+    let a = c.args in
+    let line =
+    then_more [] (decimal a.index) p1.ensures.0
+    (then_more (take p1.result p1.new.0) (ascii "refused") word.ensures.0
+    (then_more (take word.result word.new.0) (decimal a.number) p2.ensures.0
+    (then_last (take p2.result p2.new.0) (decimal a.place) p3.ensures.0)))
+    in
+    record {
+      out_after = line.is;
+      upper_bound = omega (arith, p1.ensures.1, word.ensures.1, p2.ensures.1, p3.ensures.1);
+    }
