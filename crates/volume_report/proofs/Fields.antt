@@ -19,6 +19,6 @@ module _ (i : ℕ) (e : Entry) where
   unfolding line_of
   refusal_line n g = rw (ne_eqb e.number 0 n) g
 
-pub last_line : (t : Tally) {l : List ℕ} → l ≡ line (decimal t.tetrahedra ∷ decimal t.sum ∷ []) → l ≡ last_line t
+pub last_line_law : (t : Tally) {l : List ℕ} → l ≡ line (decimal t.tetrahedra ∷ decimal t.sum ∷ []) → l ≡ last_line t
 unfolding last_line
-last_line t g = g
+last_line_law t g = g

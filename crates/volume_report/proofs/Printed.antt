@@ -2,7 +2,7 @@
 --     entry_accepted    an entry without a refusal is that of a file that was read and of a block that was filled
 --     printed_volume    the sum that is printed is that of the triple products of the faces in one row only
 use Prim.Native.Nat.{ℕ, ◌*◌}
-use mathlib.Core.Path.{◌≡◌, refl, ap, ◌∙◌}
+use mathlib.Core.Path.{◌≡◌, refl, ◌∙◌}
 use mathlib.Core.Bool.{Bool, true, false, not}
 use mathlib.Core.List.{List}
 use lib.IntN.{pos}
@@ -24,7 +24,7 @@ use Rattle.blockfile.proofs.CutBytes.{bytes_zeros, read_bytes}
 use Rattle.fill_file.specs.program.Summary.{bench_limit, bench_cuts}
 use Rattle.volume_report.specs.declared.Entry.{Entry}
 use Rattle.volume_report.specs.program.Report.{opened, filled, measured, refusal, entry_from, entry_of}
-use Rattle.volume_report.proofs.Opening.{Opens, opens, filled_ready, filled_encloses}
+use Rattle.volume_report.proofs.Opening.{opens, filled_ready, filled_encloses}
 
 -- the rows of the block in a file, and the places of their corners
 abbrev pub mesh_in : List ℕ → List (Row ℕ)

@@ -7,7 +7,6 @@ use mathlib.Core.Bool.{false}
 use mathlib.Core.List.{List, [], ◌∷◌, ◌++◌}
 use lib.ListN.{drop}
 use Rattle.std.specs.Prelude.{if◌then◌else◌}
-use Rattle.blockfile.specs.Format as file
 use Rattle.blockfile.specs.inner.Needs.{bench_longest, Held}
 use Rattle.blockfile.proofs.Longest.{bench_enough}
 use Rattle.blockfile.proofs.Holding.{held_read, held_all, held_some}

@@ -1,7 +1,6 @@
 -- A file that is refused, a block that is refused, or its volumes. Assumes nothing.
 use Rattle.volume_report.proofs.Opening.{opens, opened_sized, opened_samples, opened_cuts, filled_state, filled_few, filled_ready}
 use Rattle.volume_report.proofs.Entries.{refusal_small, file_refused, block_refused, block_measured}
-use borrow.Author.Rules.{rules}
 use Rattle.volume_report.proofs.files.entry.Goals as goal
 
 pub returns-then-r-ne0 : goal.returns-then-r-ne0
@@ -15,7 +14,10 @@ pub fill_read-f-requires : goal.fill_read-f-requires
 fill_read-f-requires c =
     let w = opens c.read-r.ensures.value c.read-r.ensures.samples_after c.read-r.ensures.cuts_after in
     let z = c.if-r-ne0.false in
-    (opened_sized w z, (opened_samples w z, opened_cuts w z))
+    record {
+      sized = opened_sized w z;
+      r_in_bounds = (opened_samples w z, opened_cuts w z);
+    }
 
 pub returns-then-f-ne0 : goal.returns-then-f-ne0
 returns-then-f-ne0 c =

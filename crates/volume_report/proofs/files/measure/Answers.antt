@@ -4,7 +4,6 @@ use mathlib.Core.Path.{sym}
 use lib.Seq.{length-take-le}
 use Rattle.moving.specs.Block.{Bytes}
 use Rattle.volume_report.proofs.Measuring.{lent_measured, measured_is, small_is}
-use borrow.Author.Rules.{rules}
 use Rattle.volume_report.proofs.files.measure.Goals as goal
 
 pub slice_bounds-add_up-end : goal.slice_bounds-add_up-end

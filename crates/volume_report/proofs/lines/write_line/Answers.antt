@@ -4,23 +4,22 @@ use native.Mathlib.Omega.{arith}
 use lib.ListN.{length}
 use Rattle.text.proofs.Fields.{counts}
 use Rattle.volume_report.proofs.Fields.{volumes_line, refusal_line}
-use borrow.Author.Rules.{rules}
 use Rattle.volume_report.proofs.lines.write_line.Goals as goal
 
 pub returns-then-e-ne0 : goal.returns-then-e-ne0
 returns-then-e-ne0 c =
     let w = c.write_refusal in
-    let fits : w.result ≤ length w.new.1.1.1.0 = omega (arith, w.ensures.1, c.requires) in
+    let fits : w.result ≤ length w.new.out = omega (arith, w.ensures.upper_bound, c.requires) in
     record {
-      out_after = refusal_line _ _ c.if-e-ne0.true w.ensures.0;
+      out_after = refusal_line _ _ c.if-e-ne0.true w.ensures.out_after;
       prefix_len = counts _ _ fits;
     }
 
 pub returns : goal.returns
 returns c =
     let w = c.write_volumes in
-    let fits : w.result ≤ length w.new.1.1.0 = omega (arith, w.ensures.1, c.requires) in
+    let fits : w.result ≤ length w.new.out = omega (arith, w.ensures.upper_bound, c.requires) in
     record {
-      out_after = volumes_line _ _ c.if-e-ne0.false w.ensures.0;
+      out_after = volumes_line _ _ c.if-e-ne0.false w.ensures.out_after;
       prefix_len = counts _ _ fits;
     }

@@ -4,7 +4,6 @@ use mathlib.Core.List.{[]}
 use lib.ListN.{take}
 use Rattle.text.specs.Text.{ascii, decimal}
 use Rattle.text.proofs.Fields.{then_more, then_last}
-use borrow.Author.Rules.{rules}
 use Rattle.volume_report.proofs.lines.write_refusal.Goals as goal
 
 pub returns : goal.returns
@@ -15,12 +14,12 @@ returns c =
     let p3 = c.put_field in
     let a = c.args in
     let line =
-    then_more [] (decimal a.index) p1.ensures.0
-    (then_more (take p1.result p1.new.0) (ascii "refused") word.ensures.0
-    (then_more (take word.result word.new.0) (decimal a.number) p2.ensures.0
-    (then_last (take p2.result p2.new.0) (decimal a.place) p3.ensures.0)))
+    then_more [] (decimal a.index) p1.ensures.out_after
+    (then_more (take p1.result p1.new.out) (ascii "refused") word.ensures.out_after
+    (then_more (take word.result word.new.out) (decimal a.number) p2.ensures.out_after
+    (then_last (take p2.result p2.new.out) (decimal a.place) p3.ensures.out_after)))
     in
     record {
       out_after = line.is;
-      upper_bound = omega (arith, p1.ensures.1, word.ensures.1, p2.ensures.1, p3.ensures.1);
+      upper_bound = omega (arith, p1.ensures.upper_bound, word.ensures.value, p2.ensures.upper_bound, p3.ensures.upper_bound);
     }

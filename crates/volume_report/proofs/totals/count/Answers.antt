@@ -1,6 +1,5 @@
 -- One file more, and no total overflows. Assumes nothing.
 use Rattle.volume_report.proofs.Counted.{refused_counted, accepted_counted, refused_kept, accepted_kept, rows_fit, sum_fits}
-use borrow.Author.Rules.{rules}
 use Rattle.volume_report.proofs.totals.count.Goals as goal
 
 pub returns-then-e-ne0 : goal.returns-then-e-ne0

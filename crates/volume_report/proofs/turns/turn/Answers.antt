@@ -3,7 +3,6 @@ use mathlib.Core.Path.{ap, ap₂, ◌∙◌}
 use Rattle.volume_report.specs.declared.Entry.{Entry}
 use Rattle.volume_report.specs.declared.Tally.{Tally}
 use Rattle.volume_report.specs.program.Report.{line_of, counted, is_last}
-use borrow.Author.Rules.{rules}
 use Rattle.volume_report.proofs.turns.turn.Goals as goal
 
 pub returns : goal.returns
