@@ -11,3 +11,4 @@ pub mod F9Raw
 pub mod F9BandFirst
 pub mod F9Mending
 pub mod F9Cases
+pub mod F9Turns
