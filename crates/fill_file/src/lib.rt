@@ -1,7 +1,7 @@
 // One block file, from its bytes to what the bench program prints.
 #![tactic(auto)]
 
-pub mod lines;
+pub mod printing;
 
 ghost use Rattle.std.specs.Prelude.{◌≡◌, ◌*◌, ◌≤◌, min, length, take};
 ghost use Rattle.lattice.specs.Counts.{Sized, points};
@@ -127,5 +127,5 @@ pub fn write_output(bytes: &[u8], out: &mut [u8]) -> usize
     let mut state = [0u8; 341];
     let mut rows = [0u32; 14400];
     let s = summarize(bytes, &mut samples, &mut cuts, &mut state, &mut rows);
-    lines::write_answer(s, out)
+    printing::write_answer(s, out)
 }

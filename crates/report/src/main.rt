@@ -13,7 +13,7 @@ ghost use Rattle.volume_report.specs.inner.Small.{Kept};
 use fetch::Fetched;
 use std::io;
 use std::io::{Read, Write};
-use volume_report::{Tally, Turn, lines, totals, turns};
+use volume_report::{Tally, Turn, printing, totals, turns};
 
 // What a turn leaves, and whether its line was written.
 #[derive(Drop)]
@@ -43,7 +43,7 @@ fn print_last<W: Write>(t: Tally, output: &mut W) -> io::Result<()>
     ensures { OnOk result (Appends (W.contents output.old) (W.contents output.new) (last_line t)) }
 {
     let mut line = [0u8; 105];
-    let n = lines::write_last(t, &mut line);
+    let n = printing::write_last(t, &mut line);
     output.write_all(&line[..n])
 }
 

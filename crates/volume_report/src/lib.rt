@@ -2,7 +2,7 @@
 #![tactic(auto)]
 
 pub mod files;
-pub mod lines;
+pub mod printing;
 pub mod totals;
 pub mod turns;
 

@@ -4,7 +4,7 @@ ghost use Rattle.text.specs.inner.Counts.{IsPrefixLen};
 ghost use Rattle.volume_report.specs.program.Report.{entry_of, line_of, counted, is_last, most_files};
 ghost use Rattle.volume_report.specs.inner.Small.{Kept};
 
-use crate::{Tally, Turn, files, lines, totals};
+use crate::{Tally, Turn, files, printing, totals};
 
 // Measures the file that starts the bytes, counts it, and writes its line at the start of a lent
 // table.
@@ -21,7 +21,7 @@ pub fn turn(t: Tally, bytes: &[u8], out: &mut [u8]) -> Turn
 {
     let e = files::entry(bytes);
     let tally = totals::count(t, e);
-    let written = lines::write_line(tally.files, e, out);
+    let written = printing::write_line(tally.files, e, out);
     Turn {
         tally,
         written,

@@ -6,7 +6,7 @@ use lib.ListN.{length, take}
 use Rattle.text.specs.Text.{decimal}
 use Rattle.text.proofs.Fields.{then_more, then_last, counts}
 use Rattle.volume_report.proofs.Fields.{last_line_law}
-use Rattle.volume_report.proofs.lines.write_last.Goals as goal
+use Rattle.volume_report.proofs.printing.write_last.Goals as goal
 
 pub returns : goal.returns
 returns c =

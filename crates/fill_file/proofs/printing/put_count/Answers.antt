@@ -4,7 +4,7 @@ use mathlib.Core.List.{[], ◌∷◌, ◌++◌}
 use lib.ListN.{take}
 use Rattle.text.specs.Text.{newline, decimal}
 use Rattle.fill_file.proofs.Texts.{put_both}
-use Rattle.fill_file.proofs.lines.put_count.Goals as goal
+use Rattle.fill_file.proofs.printing.put_count.Goals as goal
 
 pub returns : goal.returns
 returns c =

@@ -4,7 +4,7 @@ use mathlib.Core.List.{[]}
 use lib.ListN.{take}
 use Rattle.text.specs.Text.{ascii, decimal}
 use Rattle.text.proofs.Fields.{then_more, then_last}
-use Rattle.volume_report.proofs.lines.write_refusal.Goals as goal
+use Rattle.volume_report.proofs.printing.write_refusal.Goals as goal
 
 pub returns : goal.returns
 returns c =

@@ -1,7 +1,7 @@
 -- Four lines, one after the other. Assumes nothing.
 use native.Mathlib.Omega.{arith}
 use Rattle.fill_file.proofs.Texts.{four_lines}
-use Rattle.fill_file.proofs.lines.write_counts.Goals as goal
+use Rattle.fill_file.proofs.printing.write_counts.Goals as goal
 
 pub returns : goal.returns
 returns c =
