@@ -23,7 +23,7 @@ needs bytes limit =
     else if beyond limit s then 3
     else rest
 
--- no well_formed_law file within the bench program's sizes has more bytes
+-- no well-formed file within the bench program's sizes has more bytes
 abbrev pub bench_longest : ℕ
 bench_longest = 9045
 

@@ -13,8 +13,8 @@ use Rattle.casebook.specs.cases.Given.{Change, unchanged, byte_at, sample_at, ch
 -- six-volume, or what the place call answers for an id after filling, or after filling and with one entry of the state table set
 pub data Claim : Type 0 where
   counts : (points lattice : ℕ) → Claim
-  first_row_law : Row ℕ → ℤ → Claim
-  place_of_law : ℕ → Placed → Claim
+  first_row_is : Row ℕ → ℤ → Claim
+  place_is : ℕ → Placed → Claim
   place_with : Entry → ℕ → Placed → Claim
 
 pub record Case : Type 0 where
@@ -52,21 +52,21 @@ nowhere n = record { number = n; x = 0; y = 0; z = 0 }
 unfoldable pub cases : List Case
 cases =
     -- the given case: "points 35, lattice 48, moved 0, emitted 24"; and P1 "First row: 13, 65, 235, 227; six-volume 8,388,608"
-    case unchanged 100 (filled 24 0) (codes []) (counts 35 48 ∷ first_row_law (row 13 65 235 227) (pos 8388608) ∷ [])
+    case unchanged 100 (filled 24 0) (codes []) (counts 35 48 ∷ first_row_is (row 13 65 235 227) (pos 8388608) ∷ [])
     -- P2 "Byte 91 at 63: point 13 moves to (638,512,512), code 1; T 0, M 1"
-    ∷ case (byte_at 91 63) 100 (filled 0 1) (codes (13 := 1 ∷ [])) (place_of_law 13 (at 638 512 512) ∷ [])
+    ∷ case (byte_at 91 63) 100 (filled 0 1) (codes (13 := 1 ∷ [])) (place_is 13 (at 638 512 512) ∷ [])
     -- P3 "At 64: M 0"
     ∷ case (byte_at 91 64) 100 (filled 24 0) (codes []) []
     -- P4 "At 193: point 14 moves to (898,512,512), code 8; T 24"
-    ∷ case (byte_at 91 193) 100 (filled 24 1) (codes (14 := 8 ∷ [])) (place_of_law 14 (at 898 512 512) ∷ [])
+    ∷ case (byte_at 91 193) 100 (filled 24 1) (codes (14 := 8 ∷ [])) (place_is 14 (at 898 512 512) ∷ [])
     -- P5 "At 192: M 0"
     ∷ case (byte_at 91 192) 100 (filled 24 0) (codes []) []
     -- P6 "Byte 94 at 105: point 13 to (617,617,617), code 4"
-    ∷ case (byte_at 94 105) 100 (filled 0 1) (codes (13 := 4 ∷ [])) (place_of_law 13 (at 617 617 617) ∷ [])
+    ∷ case (byte_at 94 105) 100 (filled 0 1) (codes (13 := 4 ∷ [])) (place_is 13 (at 617 617 617) ∷ [])
     -- P7 "At 106: M 0"
     ∷ case (byte_at 94 106) 100 (filled 24 0) (codes []) []
     -- P8 "Byte 94 at 151: point 34 to (663,663,663), code 11"
-    ∷ case (byte_at 94 151) 100 (filled 24 1) (codes (34 := 11 ∷ [])) (place_of_law 34 (at 663 663 663) ∷ [])
+    ∷ case (byte_at 94 151) 100 (filled 24 1) (codes (34 := 11 ∷ [])) (place_is 34 (at 663 663 663) ∷ [])
     -- P9 "At 150: M 0"
     ∷ case (byte_at 94 150) 100 (filled 24 0) (codes []) []
     -- P10 "Byte 91 zero: 6 at 91"
@@ -86,15 +86,15 @@ cases =
 unfoldable pub strange : List Case
 strange =
     case (byte_at 91 193) 100 (filled 24 1) (codes (14 := 8 ∷ []))
-    (place_of_law 14 (at 898 512 512)
+    (place_is 14 (at 898 512 512)
     ∷ place_with (14 := 16) 14 (nowhere 9)
     ∷ place_with (14 := 255) 14 (nowhere 9)
-    ∷ place_of_law 127 (at 512 768 512)
+    ∷ place_is 127 (at 512 768 512)
     ∷ place_with (13 := 16) 127 (nowhere 8)
     ∷ place_with (16 := 16) 127 (nowhere 8)
     ∷ [])
     ∷ case (byte_at 92 193) 100 (filled 24 1) (codes (16 := 9 ∷ []))
-    (place_of_law 16 (at 512 898 512) ∷ place_with (16 := 16) 16 (nowhere 9) ∷ [])
+    (place_is 16 (at 512 898 512) ∷ place_with (16 := 16) 16 (nowhere 9) ∷ [])
     ∷ case (byte_at 93 193) 100 (filled 24 1) (codes (22 := 10 ∷ []))
-    (place_of_law 22 (at 512 512 898) ∷ place_with (22 := 17) 22 (nowhere 9) ∷ [])
+    (place_is 22 (at 512 512 898) ∷ place_with (22 := 17) 22 (nowhere 9) ∷ [])
     ∷ []

@@ -5,7 +5,7 @@ use Rattle.std.specs.Prelude.{List, [], ◌∷◌}
 use Rattle.basics.specs.cases.Table.{Entry, ◌:=◌}
 use Rattle.casebook.specs.cases.Lent.{codes}
 use Rattle.casebook.specs.cases.Given.{bytes_at}
-use Rattle.casebook.specs.cases.Cases.{Case, case, Claim, place_of_law, place_with, filled, at, nowhere}
+use Rattle.casebook.specs.cases.Cases.{Case, case, Claim, place_is, place_with, filled, at, nowhere}
 
 -- point 13 moves by a code, and so no row is left
 abbrev moves : List Entry → Entry → List Claim → Case
@@ -16,15 +16,15 @@ nearest =
     -- "4 times t squared on long edges and 3 times t squared on short ones": t = 60 on a long edge is 14,400, t = 66 on a short one 13,068.
     -- The other cut violates point 13 too, so its code would be believed; a cut at 128 does not
     moves (91 := 60 ∷ 94 := 66 ∷ []) (13 := 4)
-    (place_of_law 13 (at 578 578 578) ∷ place_with (13 := 1) 13 (at 632 512 512) ∷ place_with (13 := 2) 13 (nowhere 9) ∷ [])
+    (place_is 13 (at 578 578 578) ∷ place_with (13 := 1) 13 (at 632 512 512) ∷ place_with (13 := 2) 13 (nowhere 9) ∷ [])
     -- t = 57 on the long edge is 12,996
-    ∷ moves (91 := 57 ∷ 94 := 66 ∷ []) (13 := 1) (place_of_law 13 (at 626 512 512) ∷ [])
+    ∷ moves (91 := 57 ∷ 94 := 66 ∷ []) (13 := 1) (place_is 13 (at 626 512 512) ∷ [])
     -- "With t counted from the point": the same distances from ends of edges
-    ∷ moves (84 := 196 ∷ 192 := 190 ∷ []) (13 := 11) (place_of_law 13 (at 446 446 446) ∷ [])
-    ∷ moves (84 := 199 ∷ 192 := 190 ∷ []) (13 := 8) (place_of_law 13 (at 398 512 512) ∷ [])
+    ∷ moves (84 := 196 ∷ 192 := 190 ∷ []) (13 := 11) (place_is 13 (at 446 446 446) ∷ [])
+    ∷ moves (84 := 199 ∷ 192 := 190 ∷ []) (13 := 8) (place_is 13 (at 398 512 512) ∷ [])
     -- and from a start and an end: the lower code is the nearer, and the higher
-    ∷ moves (94 := 66 ∷ 84 := 196 ∷ []) (13 := 4) (place_of_law 13 (at 578 578 578) ∷ [])
-    ∷ moves (94 := 66 ∷ 84 := 199 ∷ []) (13 := 8) (place_of_law 13 (at 398 512 512) ∷ [])
+    ∷ moves (94 := 66 ∷ 84 := 196 ∷ []) (13 := 4) (place_is 13 (at 578 578 578) ∷ [])
+    ∷ moves (94 := 66 ∷ 84 := 199 ∷ []) (13 := 8) (place_is 13 (at 398 512 512) ∷ [])
     -- the extremes: 15,876 and 33,075, and 4 and 3
     ∷ moves (91 := 63 ∷ 94 := 105 ∷ []) (13 := 1) []
     ∷ moves (91 := 1 ∷ 94 := 1 ∷ []) (13 := 4) []
@@ -35,5 +35,5 @@ nearest =
     -- three violate, and the two nearer ones tie
     ∷ moves (91 := 50 ∷ 93 := 20 ∷ 71 := 236 ∷ []) (13 := 3) []
     -- one violates, as in P2, P4, P6 and P8, though a cut on a long edge is nearer: "at most 63", and 64 does not
-    ∷ moves (91 := 64 ∷ 94 := 105 ∷ []) (13 := 4) (place_of_law 13 (at 617 617 617) ∷ place_with (13 := 1) 13 (nowhere 9) ∷ [])
+    ∷ moves (91 := 64 ∷ 94 := 105 ∷ []) (13 := 4) (place_is 13 (at 617 617 617) ∷ place_with (13 := 1) 13 (nowhere 9) ∷ [])
     ∷ []

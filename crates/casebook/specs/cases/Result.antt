@@ -10,7 +10,7 @@ use Rattle.filling.specs.Mesh.{row_volume}
 use Rattle.filling.specs.Fill.{Outcome, fill}
 use Rattle.filling.specs.Located.{locate}
 use Rattle.casebook.specs.cases.Lent.{lent_state, lent_rows, state_table}
-use Rattle.casebook.specs.cases.Cases.{Case, Claim, counts, first_row_law, place_of_law, place_with}
+use Rattle.casebook.specs.cases.Cases.{Case, Claim, counts, first_row_is, place_is, place_with}
 
 pub record Result : Type 0 where
   pub answer : Filled
@@ -39,8 +39,8 @@ module _ (b : Block) (o : Outcome) where
 
   unfoldable pub found : Claim → Claim
   found (counts n l) = counts (points b.sizes) (tetrahedra b.sizes)
-  found (first_row_law r v) = first_row_law first_row (row_volume (place_of b.sizes b.cuts o.state) first_row)
-  found (place_of_law id p) = place_of_law id (locate b.sizes b.cuts o.state id)
+  found (first_row_is r v) = first_row_is first_row (row_volume (place_of b.sizes b.cuts o.state) first_row)
+  found (place_is id p) = place_is id (locate b.sizes b.cuts o.state id)
   found (place_with e id p) = place_with e id (locate b.sizes b.cuts (entered e o.state) id)
 
   unfoldable pub result_of : List Claim → Result
