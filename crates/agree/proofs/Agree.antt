@@ -7,8 +7,8 @@ use mathlib.Core.Bool.{true}
 use mathlib.Core.List.{List}
 use lib.ListN.{length, get_or}
 use borrow.Author.Tests.{eq-eqb, ne_eqb, lt-leb, lt-ltb, le-ltb}
+use Rattle.std.proofs.Common.{Some}
 use Rattle.basics.proofs.Test.{T_true}
-use Rattle.lattice.specs.declared.Near.TheVariants.{At}
 use Rattle.lattice.specs.Counts.{Sized, points}
 use Rattle.lattice.specs.Direction.{as_start}
 use Rattle.lattice.specs.Edge.{neighbour, byte_at}
@@ -71,7 +71,7 @@ module _ (m : Reading) (asked : Asked m) (codes : List ℕ) (reached : Reached m
   point_agrees p l = faultless p (rw (lt-ltb _ _ l, believed p l) refl)
 
   -- the cut of an edge that exists, has a byte, and has two ends with state byte 0
-  pub cut_agrees : (p d q : ℕ) → p < points m.sizes → d < 7 → neighbour m.sizes p (as_start d) ≡ At q
+  pub cut_agrees : (p d q : ℕ) → p < points m.sizes → d < 7 → neighbour m.sizes p (as_start d) ≡ Some q
       → (get_or m.cuts (byte_at p d) 0 ≡ 0 → ⊥) → get_or codes p 0 ≡ 0 → get_or codes q 0 ≡ 0
       → answer_to m codes (cut_id m.sizes p d) ≡ stands_at m codes (cut_id m.sizes p d)
   unfolding id_fault stands stands_to

@@ -10,10 +10,9 @@ use lib.Signed.{lt_z}
 use lib.ListN.{get_or}
 use lib.Dec.{T, ltb→lt}
 use borrow.Author.Tests.{leb-true, leb-false}
-use Rattle.std.specs.Prelude.{if◌then◌else◌}
+use Rattle.std.specs.Prelude.{if◌then◌else◌, Some}
 use Rattle.basics.proofs.Test.{and_l, and_r, every_use, Member, here, there}
 use Rattle.basics.proofs.Gather.{gather_part}
-use Rattle.lattice.specs.declared.Near.TheVariants.{At}
 use Rattle.lattice.specs.Counts.{points}
 use Rattle.lattice.specs.Direction.{Code, as_start, is_start, direction_of, opposite}
 use Rattle.lattice.specs.Edge.{neighbour}
@@ -67,7 +66,7 @@ module _ (m : Reading) (asked : Asked m) (fits : Fits m) (codes : List ℕ) (rea
   final = label_after m.label codes
 
   -- an edge between two labels that are opposed after moving: neither end moved, and there is a byte
-  edge_agrees : (p d q : ℕ) → p < points m.sizes → d < 7 → neighbour m.sizes p (as_start d) ≡ At q
+  edge_agrees : (p d q : ℕ) → p < points m.sizes → d < 7 → neighbour m.sizes p (as_start d) ≡ Some q
       → T (opposed (final p) (final q))
       → answer_to m codes (cut_id m.sizes p d) ≡ stands_at m codes (cut_id m.sizes p d)
   edge_agrees p d q l u e t =
@@ -89,7 +88,7 @@ module _ (m : Reading) (asked : Asked m) (fits : Fits m) (codes : List ℕ) (rea
     unfolding corner_number
     at_lt v = number_lt m.sizes (kind v) (corner t v) (corner_inside m.sizes t valid v)
 
-    joined : (u v : Vertex) → rank u < rank v → neighbour m.sizes (at u) (code_in t u v) ≡ At (at v)
+    joined : (u v : Vertex) → rank u < rank v → neighbour m.sizes (at u) (code_in t u v) ≡ Some (at v)
     unfolding corner_number
     joined u v l =
         near_number m.sizes (kind u) (corner t u) (corner_inside m.sizes t valid u) (code_in t u v)

@@ -10,17 +10,16 @@ use std::io;
 use std::io::{Read, Write};
 
 // The longest file of 5 by 5 by 5 cubes has 1194 runs of one byte, 3 + 682 + 2 + 7 * 1194 = 9045
-// bytes; one byte more shows that a file is too long. At most 113 bytes are printed: four words and
-// four numbers, each with its end of line. A read or a write that fails is answered by its error.
+// bytes; one byte more shows that a file is too long. A read or a write that fails is answered by its
+// error.
 fn run<R: Read, W: Write>(input: &mut R, printed: &mut W) -> io::Result<()>
     ensures { OnOk result (IfSome (R.remaining input.old)
         (λ bytes. Appends (W.contents printed.old) (W.contents printed.new) (output (take 9046 bytes)))) }
 {
     let mut bytes = [0u8; 9046];
-    let mut text = [0u8; 113];
     let n = streams::read_first(input, &mut bytes)?;
-    let k = fill_file::write_output(&bytes[..n], &mut text);
-    printed.write_all(&text[..k])
+    let text = fill_file::output(&bytes[..n]);
+    printed.write_all(text.as_slice())
 }
 
 fn main(rt: HostRuntime) -> io::Result<()> {

@@ -6,14 +6,12 @@
 -- Assumes nothing.
 use Prim.Native.Nat.{ℕ, ◌+◌, ◌*◌, ◌/◌, ◌%◌, ◌^◌, ◌≤◌, ◌<◌}
 use native.Mathlib.Omega.{arith}
-use mathlib.Core.Path.{◌≡◌, sym, ap, ◌∙◌}
+use mathlib.Core.Path.{◌≡◌, ap, ◌∙◌}
 use mathlib.Core.List.{List}
 use lib.ListN.{length, get_or}
-use lib.Count.{ones}
 use Rattle.basics.specs.Lists.{count}
 use Rattle.basics.proofs.Search.{count_le, count_same, count_parts}
 use Rattle.bitmap.specs.inner.Bits.{bit, marked, Ranks}
-use Rattle.bitmap.proofs.Words.{ones_whole}
 use Rattle.bitmap.proofs.Tables.{word_bit}
 
 pub count_word : (bits : List ℕ) (w j : ℕ) → j ≤ 64
@@ -23,12 +21,9 @@ count_word bits w j h = omega (arith, count_parts (marked bits) (64 * w) j, with
     within : count (λ i. marked bits (64 * w + i)) j ≡ count (bit (get_or bits w 0)) j
     within = count_same _ (bit (get_or bits w 0)) j (λ i l. word_bit bits w i (omega arith))
 
-pub count_next : (bits : List ℕ) (w : ℕ) → get_or bits w 0 < 2 ^ 64
-    → count (marked bits) (64 * (w + 1)) ≡ count (marked bits) (64 * w) + ones (get_or bits w 0)
-count_next bits w h =
-    ap (count (marked bits)) (omega arith)
-    ∙ count_word bits w 64 (omega arith)
-    ∙ ap (λ (x : ℕ). count (marked bits) (64 * w) + x) (sym (ones_whole (get_or bits w 0) 64 h))
+pub count_next : (bits : List ℕ) (w : ℕ)
+    → count (marked bits) (64 * (w + 1)) ≡ count (marked bits) (64 * w) + count (bit (get_or bits w 0)) 64
+count_next bits w = ap (count (marked bits)) (omega arith) ∙ count_word bits w 64 (omega arith)
 
 pub count_at : (bits : List ℕ) (k : ℕ)
     → count (marked bits) k

@@ -3,7 +3,6 @@
 use Prim.Native.Nat.{ℕ, ◌*◌, ◌<◌, ◌≤◌}
 use native.Mathlib.Omega.{arith}
 use mathlib.Core.Path.{◌≡◌, refl, sym, ap, ◌∙◌}
-use mathlib.Core.Logic.{inl, inr}
 use mathlib.Core.Bool.{Bool, true, false, not, ◌&&◌}
 use mathlib.Core.List.{List, ◌++◌}
 use lib.IntN.{ℤ}
@@ -11,15 +10,14 @@ use lib.ListN.{length, drop, length-append}
 use lib.Seq.{sets}
 use lib.Dec.{ltb, eqb}
 use borrow.Author.Tests.{lt-ltb, le-ltb, ltb-false, eq-eqb, ne_eqb, not-false}
-use Rattle.std.specs.Prelude.{if◌then◌else◌}
-use Rattle.basics.proofs.Test.{lt_or}
+use Rattle.std.specs.Prelude.{if◌then◌else◌, Ok, Err}
 use Rattle.basics.proofs.Stores.{sets_front}
 use Rattle.lattice.specs.declared.Sizes.{Sizes}
-use Rattle.lattice.specs.Counts.{Sized, largest, sizes_fit, points, most_points}
+use Rattle.lattice.specs.Counts.{Sized, sizes_fit, points, most_points}
 use Rattle.lattice.proofs.Sized.{fits_sized}
 use Rattle.lattice.proofs.Bounds.{points_small}
-use Rattle.blockfile.specs.declared.Read.{Read}
 use Rattle.blockfile.specs.Format.{
+  Read,
   samples_from,
   file_sizes,
   file_cuts,
@@ -34,8 +32,12 @@ use Rattle.blockfile.specs.Format.{
   read,
   read_whole,
 }
+use Rattle.blockfile.specs.inner.Answer.{answer_of}
+use Rattle.refusals.specs.declared.Refusal.{Refusal}
+use Rattle.refusals.specs.declared.Refusal.TheVariants.{Sizes as Refused, Samples, Cuts, State, Rim, Gap, Stray, Id, Move, File, Room, Unit, Band, Quads}
+use Rattle.refusals.specs.inner.Numbers.{number_of}
+use Rattle.blockfile.specs.declared.Loaded.{Loaded}
 use Rattle.blockfile.proofs.Outcome.{samples_long, file_cuts_long}
-use Rattle.blockfile.proofs.Longest.{Limited}
 
 -- the answer and both tables of an outcome
 abbrev pub Is : Outcome → Read → List ℤ → List ℕ → Type 0
@@ -44,10 +46,25 @@ Is o r samples cuts = (r ≡ o.answer) × ((samples ≡ o.samples) × (cuts ≡ 
 pub is_of : {o u : Outcome} {r : Read} {samples : List ℤ} {cuts : List ℕ} → o ≡ u → Is u r samples cuts → Is o r samples cuts
 is_of e w = rw e w
 
-module _ (samples : List ℤ) (cuts : List ℕ) where
-  pub refused_is : (k : ℕ) {r : Read} → r ≡ refusal k → Is (refused samples cuts k) r samples cuts
-  refused_is k e = (e, (refl, refl))
+-- no refusal has the number 0
+pub no_zero : (e : Refusal) → (answer_of (Err e)).number ≡ 0 → ⊥
+unfolding answer_of number_of refusal
+no_zero Refused h = omega arith
+no_zero Samples h = omega arith
+no_zero Cuts h = omega arith
+no_zero State h = omega arith
+no_zero (Rim p) h = omega arith
+no_zero (Gap p) h = omega arith
+no_zero (Stray p) h = omega arith
+no_zero Id h = omega arith
+no_zero Move h = omega arith
+no_zero File h = omega arith
+no_zero Room h = omega arith
+no_zero Unit h = omega arith
+no_zero Band h = omega arith
+no_zero Quads h = omega arith
 
+module _ (samples : List ℤ) (cuts : List ℕ) where
   -- an answer of 0 comes from what is tested after a refusal
   passed : (t : Bool) (k : ℕ) (more : Outcome) → (k ≡ 0 → ⊥) → (if t then refused samples cuts k else more).answer.number ≡ 0
       → (t ≡ false) × (((if t then refused samples cuts k else more) ≡ more) × (more.answer.number ≡ 0))
@@ -157,20 +174,7 @@ module _ (bytes : List ℕ) (limit : ℕ) (samples : List ℤ) (cuts : List ℕ)
         let q = p ∙ ap (λ (o : Outcome). o.answer) w.is in
         rw (ap (λ (r : Read). read_sizes r) q) w
 
-    -- sizes of a block, or zeros
-    pub small_sizes : Limited largest (read_sizes r)
-    unfolding refusal
-    small_sizes = elim (lt_or 0 r.number) [ inl h ↦ by_refusal (λ z. omega arith) | inr h ↦ by_block (readable_as (omega arith)).sized ]
-      where
-        by_refusal : (r.number ≡ 0 → ⊥) → Limited largest (read_sizes r)
-        by_refusal n =
-            rw (ap (λ (r : Read). read_sizes r) (p ∙ ap (λ (o : Outcome). o.answer) (refusal_as n).1))
-            (record { x = omega arith; y = omega arith; z = omega arith })
-
-        by_block : Sized (read_sizes r) → Limited largest (read_sizes r)
-        by_block w = record { x = w.x_high; y = w.y_high; z = w.z_high }
-
-    pub ready : {n : ℕ} → r.number ≡ 0 → n ≡ points (read_sizes r) → Ready bytes samples cuts n
+    ready : {n : ℕ} → r.number ≡ 0 → n ≡ points (read_sizes r) → Ready bytes samples cuts n
     ready e h =
         let w = readable_as e in
         rw h ((points_small _ w.sized, w.well), (w.room, w.roomy))
@@ -193,17 +197,44 @@ module _ (bytes : List ℕ) (limit : ℕ) (samples : List ℤ) (cuts : List ℕ)
         back = rw h (sets_front cuts (file_cuts bytes (points (read_sizes r))) (file_cuts_long bytes (points (read_sizes r)) w.well) w.roomy)
 
     -- a whole file: refused as before; too long; or nothing follows
-    pub whole_refused : (r.number ≡ 0 → ⊥) → read_whole bytes limit samples cuts ≡ read bytes limit samples cuts
+    whole_refused : (r.number ≡ 0 → ⊥) → read_whole bytes limit samples cuts ≡ read bytes limit samples cuts
     unfolding read_whole
     whole_refused n = simp (← p, ne_eqb r.number 0 n)
 
-    pub whole_long : r.number ≡ 0 → r.end < length bytes → read_whole bytes limit samples cuts ≡ refused samples cuts 11
+    whole_long : r.number ≡ 0 → r.end < length bytes → read_whole bytes limit samples cuts ≡ refused samples cuts 11
     unfolding read_whole
     whole_long e h = simp (← p, eq-eqb r.number 0 e, lt-ltb r.end (length bytes) h)
 
-    pub whole_all : r.number ≡ 0 → length bytes ≤ r.end → read_whole bytes limit samples cuts ≡ read bytes limit samples cuts
+    whole_all : r.number ≡ 0 → length bytes ≤ r.end → read_whole bytes limit samples cuts ≡ read bytes limit samples cuts
     unfolding read_whole
     whole_all e h = simp (← p, eq-eqb r.number 0 e, le-ltb r.end (length bytes) h)
+
+  -- a refusal is handed on with the tables as they were lent
+  module _ (e : Refusal) (p : answer_of (Err e) ≡ (read bytes limit samples cuts).answer) where
+    pub handed_on : Is (read bytes limit samples cuts) (answer_of (Err e)) samples cuts
+    handed_on = untouched p (no_zero e)
+
+    pub whole_handed_on : Is (read_whole bytes limit samples cuts) (answer_of (Err e)) samples cuts
+    whole_handed_on = is_of (whole_refused p (no_zero e)) handed_on
+
+  -- a file that passed the checks
+  module _ (o : Loaded) (p : answer_of (Ok o) ≡ (read bytes limit samples cuts).answer) where
+    pub loaded_ready : {n : ℕ} → n ≡ points o.lattice.sizes → Ready bytes samples cuts n
+    unfolding answer_of
+    loaded_ready h = ready p refl h
+
+    pub loaded_written : {ss : List ℤ} {cs : List ℕ} {n : ℕ} → n ≡ points o.lattice.sizes → ss ≡ sets samples 0 (samples_from bytes 3 n)
+        → cs ≡ sets cuts 0 (file_cuts bytes n) → Is (read bytes limit samples cuts) (answer_of (Ok o)) ss cs
+    unfolding answer_of
+    loaded_written h f g = written p refl h f g
+
+    pub loaded_long : o.end < length bytes → Is (read_whole bytes limit samples cuts) (answer_of (Err File)) samples cuts
+    unfolding answer_of number_of
+    loaded_long h = is_of (whole_long p refl h) (refl, (refl, refl))
+
+    pub loaded_all : length bytes ≤ o.end → read_whole bytes limit samples cuts ≡ read bytes limit samples cuts
+    unfolding answer_of
+    loaded_all h = whole_all p refl h
 
   -- a whole file that is taken is read as any other
   pub whole_is : (read_whole bytes limit samples cuts).answer.number ≡ 0 → read_whole bytes limit samples cuts ≡ read bytes limit samples cuts
@@ -230,3 +261,13 @@ module _ (bytes : List ℕ) (limit : ℕ) (samples : List ℤ) (cuts : List ℕ)
     unfolding taken
     whole_cuts f =
         rw (f, whole_as, whole_readable.is, length-append) (omega (arith, file_cuts_long bytes (points (read_sizes r)) whole_readable.well))
+
+  -- the same of a file that a call gives
+  module _ (o : Loaded) (p : answer_of (Ok o) ≡ (read_whole bytes limit samples cuts).answer) where
+    pub whole_loaded_samples : {ss : List ℤ} → ss ≡ (read_whole bytes limit samples cuts).samples → points o.lattice.sizes ≤ length ss
+    unfolding answer_of
+    whole_loaded_samples f = whole_samples p refl f
+
+    pub whole_loaded_cuts : {cs : List ℕ} → cs ≡ (read_whole bytes limit samples cuts).cuts → 7 * points o.lattice.sizes ≤ length cs
+    unfolding answer_of
+    whole_loaded_cuts f = whole_cuts p refl f

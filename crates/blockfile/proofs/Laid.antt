@@ -5,7 +5,9 @@ use mathlib.Core.Path.{◌≡◌, refl, sym, ap, ◌∙◌}
 use mathlib.Core.Bool.{true}
 use mathlib.Core.List.{List, ◌∷◌, ◌++◌}
 use lib.ListN.{length, take, drop, replicate, length-replicate, length-drop}
-use lib.Seq.{sets, length-sets, length-take-le}
+use borrow.Rule.Slice.PartMut.{put_mid}
+use Rattle.std.proofs.lemmas.Slice.{put_mid-paste}
+use lib.Seq.{take_all, sets-eq, sets, length-sets, length-take-le}
 use Rattle.basics.proofs.Stores.{sets_append}
 use Rattle.blockfile.specs.declared.Run.{Run}
 use Rattle.blockfile.specs.Format.{fit, lengths, run_at, runs_from, cuts_from}
@@ -36,6 +38,25 @@ lay_run bytes table total k at r rs h g =
 
     b : length part ≡ r.length
     b = length-take-le r.length (drop at bytes) (rw length-drop (omega arith))
+
+-- a part of a table that came back with other bytes
+pub put_sets : (a k : ℕ) (xs ys : List ℕ) → length ys ≡ k → a + k ≤ length xs → put_mid a k xs ys ≡ sets xs a ys
+put_sets a k xs ys e h =
+    let q : a + k ≡ a + length ys = omega arith in
+    put_mid-paste a k xs ys ys k refl refl (sym e) ∙ rw (take_all k ys (omega arith), q) (sym (sets-eq ys xs a (omega arith)))
+
+module _ (a n : ℕ) (xs ys : List ℕ) (h : a + n ≤ length xs) where
+  part_long : length (take n (drop a xs)) ≡ n
+  part_long = length-take-le n (drop a xs) (rw length-drop (omega arith))
+
+  -- zeros, and bytes of the file
+  pub zeros_put : ys ≡ replicate (length (take n (drop a xs))) 0 → put_mid a n xs ys ≡ sets xs a (replicate n 0)
+  zeros_put e =
+      let z : ys ≡ replicate n 0 = rw part_long at e in
+      put_sets a n xs ys (ap length z ∙ length-replicate n 0) h ∙ ap (sets xs a) z
+
+  pub bytes_put : {ps : List ℕ} → ys ≡ ps → length ps ≡ n → put_mid a n xs ys ≡ sets xs a ps
+  bytes_put e l = put_sets a n xs ys (ap length e ∙ l) h ∙ ap (sets xs a) e
 
 -- i runs are laid down, the table is written up to entry k, and the bytes of the next run start at `at`
 pub record Laid (bytes : List ℕ) (head count first total : ℕ) (table₀ table : List ℕ) (k at i : ℕ) : Type 0 where

@@ -2,12 +2,13 @@
 use Prim.Native.Nat.{ℕ, suc, ◌+◌, ◌*◌, ◌-◌, ◌<◌, ◌≤◌}
 use native.Mathlib.Omega.{arith}
 use native.Mathlib.Numerals.{add-one}
-use mathlib.Core.Path.{◌≡◌, ap₂}
-use mathlib.Core.Bool.{true, false}
+use mathlib.Core.Path.{◌≡◌, refl, ap₂}
+use mathlib.Core.Bool.{Bool, true, false, not, ◌&&◌, ◌||◌}
+use lib.Dec.{eqb}
+use Rattle.std.specs.List.{list_any}
 use mathlib.Core.List.{List, [], ◌∷◌}
-use lib.ListN.{length, get_or, drop, replicate, drop_of_length-le}
+use lib.ListN.{length, get_or, drop, replicate}
 use lib.Seq.{drop-cons}
-use borrow.Author.Tests.{eq-eqb, ne_eqb}
 use Rattle.blockfile.specs.declared.Run.{Run}
 use Rattle.blockfile.specs.Format.{signed, no_zero, two_at, samples_from, run_at, runs_from}
 
@@ -15,25 +16,20 @@ use Rattle.blockfile.specs.Format.{signed, no_zero, two_at, samples_from, run_at
 pub zeros_left : (e i : ℕ) → i < e → ◌≡◌ {A = List ℕ} (replicate (e - i) 0) (0 ∷ replicate (e - (i + 1)) 0)
 zeros_left e i h = let s : e - i ≡ suc (e - (i + 1)) = omega arith in rw s
 
-pub no_zeros_left : (e i : ℕ) → e ≤ i → ◌≡◌ {A = List ℕ} (replicate (e - i) 0) []
-no_zeros_left e i h = let s : e - i ≡ 0 = omega arith in rw s
-
 -- a part of the file
 module _ (part : List ℕ) (i : ℕ) where
   pub part_left : i < length part → drop i part ≡ get_or part i 0 ∷ drop (i + 1) part
   part_left h = rw (add-one i) (drop-cons part i 0 h)
 
-  pub not_zero : i < length part → (get_or part i 0 ≡ 0 → ⊥) → no_zero (drop (i + 1) part) ≡ no_zero (drop i part)
-  unfolding no_zero
-  not_zero h ne = rw (part_left h) (simp (ne_eqb (get_or part i 0) 0 ne))
-
-  pub zero_there : i < length part → get_or part i 0 ≡ 0 → false ≡ no_zero (drop i part)
-  unfolding no_zero
-  zero_there h e = rw (part_left h) (simp (eq-eqb (get_or part i 0) 0 e))
-
-  pub none_left : length part ≤ i → true ≡ no_zero (drop i part)
-  unfolding no_zero
-  none_left h = rw (drop_of_length-le part h)
+-- no zero among the bytes, as a search for one finds
+pub zero_free : (bs : List ℕ) → not (list_any (λ (b : ℕ). eqb b 0) bs) ≡ no_zero bs
+unfolding no_zero
+zero_free [] = refl
+zero_free (b ∷ bs) = go (eqb b 0) _ _ (zero_free bs)
+  where
+    go : (z r s : Bool) → not r ≡ s → not (z || r) ≡ (not z && s)
+    go true r s e = refl
+    go false r s e = e
 
 module _ (bytes : List ℕ) where
   -- n samples

@@ -5,6 +5,7 @@ use native.Mathlib.Omega.{arith}
 use mathlib.Core.Path.{◌≡◌, refl, ap}
 use mathlib.Core.Bool.{true, false}
 use mathlib.Core.List.{List, [], ◌∷◌}
+use Rattle.std.specs.Prelude.{Ok, Err}
 use lib.IntN.{ℤ}
 use lib.ListN.{length, take, drop, replicate, length-append, length-replicate, length-drop}
 use lib.Seq.{length-take-le}
@@ -12,8 +13,8 @@ use borrow.Author.Tests.{lt-ltb, le-ltb}
 use Rattle.lattice.specs.declared.Sizes.{Sizes}
 use Rattle.lattice.specs.Counts.{sizes_fit, points}
 use Rattle.blockfile.specs.declared.Run.{Run}
-use Rattle.blockfile.specs.declared.Read.{Read}
 use Rattle.blockfile.specs.Format.{
+  Read,
   fit,
   lengths,
   samples_from,
@@ -26,12 +27,17 @@ use Rattle.blockfile.specs.Format.{
   beyond,
   well_formed,
   Outcome,
-  refusal,
   refused,
   taken,
   read_body,
   read,
 }
+use Rattle.blockfile.specs.inner.Answer.{answer_of}
+use Rattle.refusals.specs.declared.Refusal.{Refusal}
+use Rattle.refusals.specs.declared.Refusal.TheVariants.{Sizes as Refused, File, Room}
+use Rattle.refusals.specs.inner.Numbers.{number_of}
+use Rattle.blockfile.specs.declared.Loaded.{Loaded}
+use Rattle.blockfile.specs.inner.Needs.{Opens, Shut, short, misfit, over}
 use Rattle.blockfile.proofs.Fitting.{fit_head, fit_tail, fit_earlier}
 use Rattle.blockfile.proofs.Parts.{well_formed_law}
 
@@ -68,9 +74,18 @@ file_cuts_long bytes n e =
 pub answer_of_law : {o u : Outcome} {r : Read} → o ≡ u → r ≡ u.answer → r ≡ o.answer
 answer_of_law e p = rw e p
 
-pub refusal_is : (samples : List ℤ) (cuts : List ℕ) {o : Outcome} {r : Read} (k : ℕ) → o ≡ refused samples cuts k
-    → r ≡ refusal k → r ≡ o.answer
-refusal_is samples cuts k = answer_of_law
+module _ {samples : List ℤ} {cuts : List ℕ} {o : Outcome} where
+  pub refused_sizes : o ≡ refused samples cuts 1 → answer_of (Err Refused) ≡ o.answer
+  unfolding answer_of number_of
+  refused_sizes p = answer_of_law p refl
+
+  pub refused_file : o ≡ refused samples cuts 11 → answer_of (Err File) ≡ o.answer
+  unfolding answer_of number_of
+  refused_file p = answer_of_law p refl
+
+  pub refused_room : o ≡ refused samples cuts 12 → answer_of (Err Room) ≡ o.answer
+  unfolding answer_of number_of
+  refused_room p = answer_of_law p refl
 
 -- after the size bytes
 module _ (bytes : List ℕ) (samples : List ℤ) (cuts : List ℕ) (s : Sizes) {n : ℕ} (p : n ≡ points s) where
@@ -92,11 +107,14 @@ module _ (bytes : List ℕ) (samples : List ℤ) (cuts : List ℕ) (s : Sizes) {
       unfolding read_body
       taken_is e = simp (← p, le-ltb (length samples) n room, le-ltb (length cuts) (7 * n) roomy, e)
 
-      pub taken_answer : {stop : ℕ} → well_formed bytes n ≡ true → stop ≡ end bytes n
-          → record { number = 0; nx = s.nx; ny = s.ny; nz = s.nz; end = stop } ≡ (read_body bytes samples cuts s).answer
-      unfolding taken
-      taken_answer {stop} e h =
-          rw (taken_is e, ← p) (ap (λ (m : ℕ). record { number = 0; nx = s.nx; ny = s.ny; nz = s.nz; end = m }) h)
+module _ (bytes : List ℕ) (samples : List ℤ) (cuts : List ℕ) (o : Loaded) {n : ℕ} (p : n ≡ points o.lattice.sizes) where
+  pub taken_as : n ≤ length samples → 7 * n ≤ length cuts → well_formed bytes n ≡ true → o.end ≡ end bytes n
+      → answer_of (Ok o) ≡ (read_body bytes samples cuts o.lattice.sizes).answer
+  unfolding taken answer_of
+  taken_as room roomy e h =
+      let s = o.lattice.sizes in
+      rw (taken_is bytes samples cuts s p room roomy e, ← p)
+      (ap (λ (m : ℕ). record { number = 0; nx = s.nx; ny = s.ny; nz = s.nz; end = m }) h)
 
 module _ (bytes : List ℕ) (limit : ℕ) (samples : List ℤ) (cuts : List ℕ) where
   pub refuse_short : length bytes < 3 → read bytes limit samples cuts ≡ refused samples cuts 11
@@ -115,3 +133,13 @@ module _ (bytes : List ℕ) (limit : ℕ) (samples : List ℤ) (cuts : List ℕ)
     pub go_on : sizes_fit s ≡ true → beyond limit s ≡ false → read bytes limit samples cuts ≡ read_body bytes samples cuts s
     unfolding read
     go_on f e = simp (le-ltb (length bytes) 3 long, ← q, f, e)
+
+  -- the sizes are refused, or what follows them decides
+  pub shut_is : {e : Refusal} → Shut bytes limit e → answer_of (Err e) ≡ (read bytes limit samples cuts).answer
+  shut_is (short h) = refused_file (refuse_short h)
+  shut_is (misfit h f) = refused_sizes (refuse_size refl h f)
+  shut_is (over h f g) = refused_room (refuse_bench refl h f g)
+
+  pub open_is : {s : Sizes} {r : Read} → Opens bytes limit s → r ≡ (read_body bytes samples cuts s).answer
+      → r ≡ (read bytes limit samples cuts).answer
+  open_is w = answer_of_law (go_on w.is w.long w.fits w.within)

@@ -1,11 +1,13 @@
 -- Two's complement in two bytes: a sample from its bytes, -32768 included. Assumes nothing.
-use Prim.Native.Nat.{ℕ, zero, suc, ◌+◌, ◌-◌, ◌<◌, ◌≤◌}
+use Prim.Native.Nat.{ℕ, suc, ◌-◌, ◌<◌, ◌≤◌}
 use native.Mathlib.Omega.{arith}
-use mathlib.Core.Path.{◌≡◌, refl, ap, ◌∙◌}
-use lib.IntN.{ℤ, pos, negsuc, ◌-ℤ◌}
+use mathlib.Core.Path.{◌≡◌}
+use lib.IntN.{pos, negsuc}
 use borrow.Author.Tests.{lt-ltb, le-ltb}
 use mir.Syntax.{w16}
+use mathlib.Core.Logic.{inl, inr}
 use mir.Val.{to_z}
+use Rattle.basics.proofs.Test.{lt_or}
 use Rattle.blockfile.specs.Format.{signed}
 
 pub signed_small : (n : ℕ) → n < 32768 → signed n ≡ pos n
@@ -17,12 +19,12 @@ unfolding signed
 signed_large n h = simp (le-ltb n 32768 h)
 
 -- the same in the machine's reading of sixteen bits
-pub small_is : (n : ℕ) → n < 32768 → to_z w16 n ≡ pos n
-small_is n h = simp (lt-ltb n 32768 h)
-
-minus_one : (m : ℕ) → negsuc 0 -ℤ pos m ≡ negsuc m
-minus_one zero = refl
-minus_one (suc m) = let e : suc (0 + m) ≡ suc m = omega arith in ap negsuc e
-
-pub less_one : (m : ℕ) → m < 32768 → negsuc 0 -ℤ to_z w16 m ≡ negsuc m
-less_one m h = ap (λ (z : ℤ). negsuc 0 -ℤ z) (small_is m h) ∙ minus_one m
+pub signed_is : (n : ℕ) → n < 65536 → to_z w16 n ≡ signed n
+unfolding signed
+signed_is n f =
+    elim (lt_or n 32768) [
+      | inl h ↦ simp (lt-ltb n 32768 h)
+      | inr h ↦
+          let e : 65536 - suc n ≡ 65535 - n = omega arith in
+          simp (le-ltb n 32768 h, e)
+    ]

@@ -2,7 +2,7 @@
 -- sizes, N and the run count in locals. Assumes nothing.
 use Prim.Native.Nat.{ℕ, ◌+◌, ◌*◌, ◌<◌, ◌≤◌}
 use native.Mathlib.Omega.{arith}
-use mathlib.Core.Path.{◌≡◌, refl}
+use mathlib.Core.Path.{◌≡◌, refl, sym}
 use mathlib.Core.Logic.{inl, inr}
 use mathlib.Core.Bool.{Bool, true, false}
 use mathlib.Core.List.{List}
@@ -12,7 +12,8 @@ use Rattle.basics.proofs.Test.{lt_or}
 use Rattle.lattice.specs.declared.Sizes.{Sizes}
 use Rattle.lattice.specs.Counts.{sizes_fit, points}
 use Rattle.blockfile.specs.Format.{file_sizes, headers, run_count, first_byte, end, beyond}
-use Rattle.blockfile.specs.inner.Needs.{needs_after, needs}
+use Rattle.refusals.specs.declared.Refusal.{Refusal}
+use Rattle.blockfile.specs.inner.Needs.{needs_after, needs, Opens, Shut, short, misfit as misfit_sizes, over as over_limit}
 use Rattle.blockfile.proofs.Parts.{first_end}
 
 -- after the size bytes
@@ -81,6 +82,15 @@ module _ (bytes : List ℕ) (limit : ℕ) where
     pub past_sizes : sizes_fit s ≡ true → beyond limit s ≡ false → needs bytes limit ≡ needs_after bytes (points s)
     unfolding needs
     past_sizes f e = simp (le-ltb (length bytes) 3 long, ← q, f, e)
+
+  -- the sizes are refused, or the stages after them count
+  pub shut_needs : {e : Refusal} → Shut bytes limit e → 3 ≡ needs bytes limit
+  shut_needs (short h) = sym (up_to_sizes h)
+  shut_needs (misfit_sizes h f) = sym (sizes_refused refl h f)
+  shut_needs (over_limit h f g) = sym (sizes_beyond refl h f g)
+
+  pub open_needs : {s : Sizes} → Opens bytes limit s → needs bytes limit ≡ needs_after bytes (points s)
+  open_needs w = past_sizes w.is w.long w.fits w.within
 
   -- never less than the sizes
   pub three : 3 ≤ needs bytes limit

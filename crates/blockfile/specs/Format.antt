@@ -5,7 +5,6 @@ use Rattle.lattice.specs.declared.Sizes.{Sizes}
 use Rattle.lattice.specs.Axis.{somewhere}
 use Rattle.lattice.specs.Counts.{size, sizes_fit, points}
 use Rattle.blockfile.specs.declared.Run.{Run}
-use Rattle.blockfile.specs.declared.Read.{Read}
 
 -- "two's complement", of two bytes
 unfoldable pub signed : ℕ → ℤ
@@ -93,6 +92,14 @@ module _ (bytes : List ℕ) where
 -- a size above the limit
 unfoldable pub beyond : ℕ → Sizes → Bool
 beyond limit s = somewhere (λ a. ltb limit (size s a))
+
+-- the answer of reading: a number of document 01, the sizes, and where in the bytes the file ends
+pub record Read : Type 0 where
+  pub number : ℕ
+  pub nx : ℕ
+  pub ny : ℕ
+  pub nz : ℕ
+  pub end : ℕ
 
 -- the answer, and the lent tables after reading
 pub record Outcome : Type 0 where

@@ -1,32 +1,13 @@
 // The cut table of a block file.
-ghost use Rattle.std.specs.Prelude.{◌≡◌, true, ◌+◌, ◌*◌, ◌-◌, ◌<◌, ◌≤◌, length, replicate};
+ghost use Rattle.std.specs.Prelude.{◌≡◌, true, ◌+◌, ◌*◌, ◌<◌, ◌≤◌, length};
 ghost use Rattle.std.proofs.lemmas.List.Edits.{sets};
 ghost use Rattle.blockfile.specs.Format.{runs_from, lengths, fit, cuts_from};
 
 use crate::runs;
 
-// The entries from k up to e become zero.
-fn clear(table: &mut [u8], k: usize, e: usize)
-    requires { (k ≤ e) × (e ≤ length table.old) }
-    ensures { table.new ≡ sets table.old k (replicate (e - k) 0) }
-{
-    for i in k..e {
-        table[i] = 0;
-    }
-}
-
-// The entries from k on become those of a part of the file.
-fn copy(part: &[u8], table: &mut [u8], k: usize)
-    requires { k + length part.now ≤ length table.old }
-    ensures { table.new ≡ sets table.old k part.now }
-{
-    for i in 0..part.len() {
-        table[k + i] = part[i];
-    }
-}
-
 // The first `total` entries become the cut table of the runs whose headers start at `head` and
-// whose bytes start at `first`: every entry is written once, in ascending order.
+// whose bytes start at `first`: every entry is written once, in ascending order. (The headers are counted
+// as in `runs`: each is read at its place of the file.)
 pub fn write_cuts(
     bytes: &[u8],
     head: usize,
@@ -46,12 +27,12 @@ pub fn write_cuts(
     let mut at = first;
     for i in 0..count {
         let r = runs::run_at(bytes, head + 6 * i);
-        let start = r.offset;
-        let next = at + r.length;
-        clear(table, k, start);
-        copy(&bytes[at..next], table, start);
-        k = start + r.length;
+        let start = r.start();
+        let next = at + usize::from(r.length);
+        table[k..start].fill(0);
+        k = r.end();
+        table[start..k].copy_from_slice(&bytes[at..next]);
         at = next;
     }
-    clear(table, k, total);
+    table[k..total].fill(0);
 }

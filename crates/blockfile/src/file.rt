@@ -1,60 +1,42 @@
 // A block file: read, or refused with nothing written.
-ghost use Rattle.std.specs.Prelude.{◌≡◌, true, ◌+◌, ◌*◌, ◌≤◌, length};
+ghost use Rattle.std.specs.Prelude.{◌≡◌, true, ◌+◌, ◌*◌, ◌≤◌, length, MatchResult};
 ghost use Rattle.std.proofs.lemmas.List.Edits.{sets};
-ghost use Rattle.lattice.specs.Counts.{Sized, points, most_points};
-ghost use Rattle.blockfile.specs.Format.{file_sizes, beyond, well_formed, samples_from, file_cuts, refusal, read_body, read, read_sizes, read_whole};
-ghost use Rattle.blockfile.specs.inner.Needs.{needs_after, needs};
+ghost use Rattle.lattice.specs.Counts.{most_points};
+ghost use Rattle.blockfile.specs.Format.{beyond, well_formed, samples_from, file_cuts, read_body, read, read_whole};
+ghost use Rattle.blockfile.specs.inner.Answer.{answer_of};
+ghost use Rattle.blockfile.specs.inner.Needs.{needs_after, needs, Opens, Shut};
 
-use crate::{Read, cuts, numbers, runs, samples};
-use lattice::{Sizes, counts};
-
-// The sizes with which a file starts.
-fn sizes_of(bytes: &[u8]) -> Sizes
-    requires { 3 ≤ length bytes.now }
-    ensures { result ≡ file_sizes bytes.now }
-{
-    Sizes {
-        nx: bytes[0] as usize,
-        ny: bytes[1] as usize,
-        nz: bytes[2] as usize,
-    }
-}
+use crate::{Loaded, cuts, numbers, runs, samples};
+use lattice::{Lattice, Sizes};
+use refusals::Refusal;
 
 // A size above the limit.
+#[tactic(auto, unfolding(crate::specs::Format::beyond))]
 fn is_beyond(s: Sizes, limit: usize) -> bool
     ensures { result ≡ beyond limit s }
 {
-    if limit < s.nx {
-        return true;
-    }
-    if limit < s.ny {
-        return true;
-    }
-    limit < s.nz
+    limit < s.nx || limit < s.ny || limit < s.nz
 }
 
-fn refused(number: u32) -> Read
-    ensures { result ≡ refusal number }
+// The lattice of the sizes with which a file starts, or why they are refused.
+fn lattice_of(bytes: &[u8], limit: usize) -> Result<Lattice, Refusal>
+    ensures { MatchResult result (λ l. Opens bytes.now limit l.sizes) (λ e. Shut bytes.now limit e) }
 {
-    Read {
-        number,
-        nx: 0,
-        ny: 0,
-        nz: 0,
-        end: 0,
+    if bytes.len() < 3 {
+        return Err(Refusal::File);
     }
-}
-
-// N of the sizes that were read.
-fn points_of(r: Read) -> usize
-    requires { Sized (read_sizes r) }
-    ensures { result ≡ points (read_sizes r) }
-{
-    counts::point_count(Sizes {
-        nx: r.nx,
-        ny: r.ny,
-        nz: r.nz,
-    })
+    let sizes = Sizes {
+        nx: usize::from(bytes[0]),
+        ny: usize::from(bytes[1]),
+        nz: usize::from(bytes[2]),
+    };
+    let Some(lattice) = Lattice::new(sizes) else {
+        return Err(Refusal::Sizes);
+    };
+    if is_beyond(sizes, limit) {
+        return Err(Refusal::Room);
+    }
+    Ok(lattice)
 }
 
 // The tables become those of a well-formed file of n points.
@@ -66,81 +48,77 @@ fn write_tables(bytes: &[u8], n: usize, samples: &mut [i16], cuts: &mut [u8])
 {
     samples::write_samples(bytes, n, samples);
     let head = 5 + 2 * n;
-    let count = numbers::two_at(bytes, 3 + 2 * n);
+    let count = usize::from(numbers::two_at(bytes, 3 + 2 * n));
     cuts::write_cuts(bytes, head, count, head + 6 * count, 7 * n, cuts);
 }
 
-// The answer for what follows the size bytes: a file that fits the tables, or a refusal.
-fn check_body(bytes: &[u8], s: Sizes, samples: &[i16], cuts: &[u8]) -> Read
-    requires { Sized s }
-    ensures { result ≡ (read_body bytes.now samples.now cuts.now s).answer }
+// A file that fits the tables, by what follows the size bytes, or a refusal.
+fn check_body(
+    bytes: &[u8],
+    lattice: Lattice,
+    samples: &[i16],
+    cuts: &[u8],
+) -> Result<Loaded, Refusal>
+    ensures { answer_of result ≡ (read_body bytes.now samples.now cuts.now lattice.sizes).answer }
 {
-    let n = counts::point_count(s);
+    let n = lattice.point_count();
     if samples.len() < n {
-        return refused(12);
+        return Err(Refusal::Room);
     }
     if cuts.len() < 7 * n {
-        return refused(12);
+        return Err(Refusal::Room);
     }
     if !runs::is_well_formed(bytes, n) {
-        return refused(11);
+        return Err(Refusal::File);
     }
-    Read {
-        number: 0,
-        nx: s.nx,
-        ny: s.ny,
-        nz: s.nz,
+    Ok(Loaded {
+        lattice,
         end: runs::end_of(bytes, n),
-    }
+    })
 }
 
-// The answer of reading a file into these tables; nothing is written yet.
-fn check(bytes: &[u8], limit: usize, samples: &[i16], cuts: &[u8]) -> Read
-    ensures { result ≡ (read bytes.now limit samples.now cuts.now).answer }
+// What reading a file into these tables answers; nothing is written yet.
+fn check(bytes: &[u8], limit: usize, samples: &[i16], cuts: &[u8]) -> Result<Loaded, Refusal>
+    ensures { answer_of result ≡ (read bytes.now limit samples.now cuts.now).answer }
 {
-    if bytes.len() < 3 {
-        return refused(11);
-    }
-    let s = sizes_of(bytes);
-    if !counts::sizes_fit(s) {
-        return refused(1);
-    }
-    if is_beyond(s, limit) {
-        return refused(12);
-    }
-    check_body(bytes, s, samples, cuts)
+    let lattice = lattice_of(bytes, limit)?;
+    check_body(bytes, lattice, samples, cuts)
 }
 
 // Reads a block file from the start of the bytes into the first entries of the lent tables, and
 // says where it ends. Everything is checked before anything is written.
-pub fn read(bytes: &[u8], limit: usize, samples: &mut [i16], cuts: &mut [u8]) -> Read
-    ensures value { result ≡ (read bytes.now limit samples.old cuts.old).answer }
+pub fn read(
+    bytes: &[u8],
+    limit: usize,
+    samples: &mut [i16],
+    cuts: &mut [u8],
+) -> Result<Loaded, Refusal>
+    ensures value { answer_of result ≡ (read bytes.now limit samples.old cuts.old).answer }
     ensures samples_after { samples.new ≡ (read bytes.now limit samples.old cuts.old).samples }
     ensures cuts_after { cuts.new ≡ (read bytes.now limit samples.old cuts.old).cuts }
 {
-    let r = check(bytes, limit, samples, cuts);
-    if r.number != 0 {
-        return r;
-    }
-    write_tables(bytes, points_of(r), samples, cuts);
-    r
+    let loaded = check(bytes, limit, samples, cuts)?;
+    write_tables(bytes, loaded.lattice.point_count(), samples, cuts);
+    Ok(loaded)
 }
 
 // As `read`, where the file must be all of the bytes: what follows its end is refused.
-pub fn read_whole(bytes: &[u8], limit: usize, samples: &mut [i16], cuts: &mut [u8]) -> Read
-    ensures value { result ≡ (read_whole bytes.now limit samples.old cuts.old).answer }
+pub fn read_whole(
+    bytes: &[u8],
+    limit: usize,
+    samples: &mut [i16],
+    cuts: &mut [u8],
+) -> Result<Loaded, Refusal>
+    ensures value { answer_of result ≡ (read_whole bytes.now limit samples.old cuts.old).answer }
     ensures samples_after { samples.new ≡ (read_whole bytes.now limit samples.old cuts.old).samples }
     ensures cuts_after { cuts.new ≡ (read_whole bytes.now limit samples.old cuts.old).cuts }
 {
-    let r = check(bytes, limit, samples, cuts);
-    if r.number != 0 {
-        return r;
+    let loaded = check(bytes, limit, samples, cuts)?;
+    if loaded.end < bytes.len() {
+        return Err(Refusal::File);
     }
-    if r.end < bytes.len() {
-        return refused(11);
-    }
-    write_tables(bytes, points_of(r), samples, cuts);
-    r
+    write_tables(bytes, loaded.lattice.point_count(), samples, cuts);
+    Ok(loaded)
 }
 
 // How many bytes of a file of n points must be held before more of it is known.
@@ -152,7 +130,7 @@ fn needed_after(bytes: &[u8], n: usize) -> usize
     if bytes.len() < head {
         return head;
     }
-    let first = head + 6 * numbers::two_at(bytes, 3 + 2 * n);
+    let first = head + 6 * usize::from(numbers::two_at(bytes, 3 + 2 * n));
     if bytes.len() < first {
         return first;
     }
@@ -164,15 +142,8 @@ fn needed_after(bytes: &[u8], n: usize) -> usize
 pub fn needed(bytes: &[u8], limit: usize) -> usize
     ensures { result ≡ needs bytes.now limit }
 {
-    if bytes.len() < 3 {
-        return 3;
+    match lattice_of(bytes, limit) {
+        Ok(lattice) => needed_after(bytes, lattice.point_count()),
+        Err(_) => 3,
     }
-    let s = sizes_of(bytes);
-    if !counts::sizes_fit(s) {
-        return 3;
-    }
-    if is_beyond(s, limit) {
-        return 3;
-    }
-    needed_after(bytes, counts::point_count(s))
 }

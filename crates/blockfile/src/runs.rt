@@ -1,33 +1,30 @@
-// The runs of a block file: their headers, and what they must be like.
+// The runs of a block file: their headers, and what they must be like. (Loops over the headers count
+// them: `run_at` and `two_at` read at a place of the file, which contracts name, and parts of six bytes
+// would be read by the same calls.)
 ghost use Rattle.std.specs.Prelude.{◌≡◌, true, ◌+◌, ◌*◌, ◌<◌, ◌≤◌, length};
 ghost use Rattle.lattice.specs.Counts.{most_points};
-ghost use Rattle.blockfile.specs.Format.{run_at, runs_from, run_fits, fit, lengths, no_zero, well_formed, first_byte, end};
+ghost use Rattle.blockfile.specs.Format.{run_at, runs_from, run_fits, fit, lengths, well_formed, first_byte, end};
 
 use crate::{Run, numbers};
 
 // The run whose header starts at i.
+#[tactic(auto, unfolding(crate::specs::Format::run_at))]
 pub fn run_at(bytes: &[u8], i: usize) -> Run
     requires { i + 6 ≤ length bytes.now }
-    ensures value { result ≡ run_at bytes.now i }
-    ensures offset_bound { (result.offset < 4294967296) × (result.length < 65536) }
+    ensures { result ≡ run_at bytes.now i }
 {
-    let offset = numbers::four_at(bytes, i);
-    let length = numbers::two_at(bytes, i + 4);
-    Run { offset, length }
+    Run {
+        offset: numbers::four_at(bytes, i),
+        length: numbers::two_at(bytes, i + 4),
+    }
 }
 
 // A run that starts no earlier than `least` and ends within the cut table.
+#[tactic(auto, unfolding(crate::specs::Format::run_fits))]
 fn run_fits(r: Run, least: usize, total: usize) -> bool
-    requires { (r.offset < 4294967296) × (r.length < 65536) }
     ensures { result ≡ run_fits total least r }
 {
-    if r.length < 1 {
-        return false;
-    }
-    if total < r.offset + r.length {
-        return false;
-    }
-    least <= r.offset
+    1 <= r.length && r.end() <= total && least <= r.start()
 }
 
 // The runs whose headers start at `head` fit the cut table, one after the other, and never touch.
@@ -41,7 +38,7 @@ fn runs_fit(bytes: &[u8], head: usize, count: usize, total: usize) -> bool
         if !run_fits(r, least, total) {
             return false;
         }
-        least = r.offset + r.length + 1;
+        least = r.end() + 1;
     }
     true
 }
@@ -54,20 +51,9 @@ fn run_bytes(bytes: &[u8], head: usize, count: usize) -> usize
 {
     let mut sum: usize = 0;
     for i in 0..count {
-        sum += numbers::two_at(bytes, head + 6 * i + 4);
+        sum += usize::from(numbers::two_at(bytes, head + 6 * i + 4));
     }
     sum
-}
-
-fn has_no_zero(part: &[u8]) -> bool
-    ensures { result ≡ no_zero part.now }
-{
-    for i in 0..part.len() {
-        if part[i] == 0 {
-            return false;
-        }
-    }
-    true
 }
 
 // Where a file of n points ends.
@@ -75,7 +61,7 @@ pub fn end_of(bytes: &[u8], n: usize) -> usize
     requires { (n ≤ most_points) × (first_byte bytes.now n ≤ length bytes.now) }
     ensures { result ≡ end bytes.now n }
 {
-    let count = numbers::two_at(bytes, 3 + 2 * n);
+    let count = usize::from(numbers::two_at(bytes, 3 + 2 * n));
     let first = 5 + 2 * n + 6 * count;
     first + run_bytes(bytes, 5 + 2 * n, count)
 }
@@ -89,7 +75,7 @@ pub fn is_well_formed(bytes: &[u8], n: usize) -> bool
     if bytes.len() < head {
         return false;
     }
-    let count = numbers::two_at(bytes, 3 + 2 * n);
+    let count = usize::from(numbers::two_at(bytes, 3 + 2 * n));
     let first = head + 6 * count;
     if bytes.len() < first {
         return false;
@@ -101,5 +87,5 @@ pub fn is_well_formed(bytes: &[u8], n: usize) -> bool
     if !runs_fit(bytes, head, count, 7 * n) {
         return false;
     }
-    has_no_zero(&bytes[first..end])
+    !bytes[first..end].contains(&0)
 }

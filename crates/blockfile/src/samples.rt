@@ -11,7 +11,7 @@ pub fn write_samples(bytes: &[u8], n: usize, samples: &mut [i16])
     requires { (n ≤ most_points) × (3 + 2 * n ≤ length bytes.now) × (n ≤ length samples.old) }
     ensures { samples.new ≡ sets samples.old 0 (samples_from bytes.now 3 n) }
 {
-    for i in 0..n {
-        samples[i] = numbers::signed(numbers::two_at(bytes, 3 + 2 * i));
+    for (i, sample) in samples[..n].iter_mut().enumerate() {
+        *sample = numbers::signed(numbers::two_at(bytes, 3 + 2 * i));
     }
 }

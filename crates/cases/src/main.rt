@@ -3,40 +3,42 @@
 // ends at the first difference and says in which record it is, counted from 1.
 #![tactic(auto)]
 
-ghost use Rattle.std.specs.Prelude.{◌+◌, ◌<◌, ◌≤◌};
+mod tally;
+
+ghost use Rattle.std.specs.Prelude.{◌+◌, ◌≤◌};
 
 use blockfile::numbers;
 use std::io;
 use std::io::{Read, Write};
-use std::num::wrapping_add_u64;
+use tally::Tally;
+use text::print_line;
 
-// Where in the tally, after the numbers answered, the records, the differences and the calls stand.
-const RECORDS: usize = 13;
+// What a record holds.
+#[derive(Clone, Copy)]
+enum Kind {
+    Filling,
+    Places,
+    File,
+}
 
-const DIFFERENCES: usize = 14;
+impl TryFrom<u8> for Kind {
+    type Error = ();
 
-const FILLINGS: usize = 15;
-
-const PLACES: usize = 16;
-
-const FILES: usize = 17;
-
-fn print_line<W: Write>(output: &mut W, word: &[u8], n: u64, rest: &[u8]) -> io::Result<()> {
-    output.write_all(word)?;
-    text::print_number(output, n)?;
-    output.write_all(rest)
+    // The byte with which a head starts.
+    fn try_from(first: u8) -> Result<Kind, ()> {
+        match first {
+            1 => Ok(Kind::Filling),
+            2 => Ok(Kind::Places),
+            3 => Ok(Kind::File),
+            _ => Err(()),
+        }
+    }
 }
 
 fn field(head: &[u8; 48], at: usize) -> u64
     requires { at + 4 ≤ 48 }
 {
-    numbers::four_at(head, at) as u64
-}
-
-fn count(tally: &mut [u64; 18], at: usize, n: u64) {
-    if at < 18 {
-        tally[at] = wrapping_add_u64(tally[at], n);
-    }
+    u64::from(numbers::four_at(head, at))
 }
 
 // What the given case's records state, once they agree: the row table's length, the number and T.
@@ -48,61 +50,62 @@ fn print_given<W: Write>(output: &mut W, head: &[u8; 48]) -> io::Result<()> {
 
 // Makes the calls of a record again, in tables with room for 5 by 5 by 5 cubes. The table of bytes is
 // the state table of a filling, or the cut table of a file.
-fn is_agreed(head: &[u8; 48], body: &[u8]) -> bool {
+fn is_agreed(kind: Kind, head: &[u8; 48], body: &[u8]) -> bool {
     let mut samples = [0i16; 400];
     let mut bytes = [0u8; 2400];
     let mut rows = [0u32; 14500];
-    if head[0] == 1 {
-        return replay::fills::agrees(head, body, &mut samples, &mut bytes, &mut rows);
+    match kind {
+        Kind::Filling => replay::fills::agrees(head, body, &mut samples, &mut bytes, &mut rows),
+        Kind::Places => replay::questions::agrees(head, body),
+        Kind::File => replay::files::agrees(head, body, &mut samples, &mut bytes),
     }
-    if head[0] == 2 {
-        return replay::questions::agrees(head, body);
-    }
-    if head[0] == 3 {
-        return replay::files::agrees(head, body, &mut samples, &mut bytes);
-    }
-    false
 }
 
 // Counts a record that agrees.
-fn note<W: Write>(tally: &mut [u64; 18], head: &[u8; 48], output: &mut W) -> io::Result<()> {
-    let number = numbers::four_at(head, 32);
-    if head[0] == 1 {
-        count(tally, FILLINGS, 1);
-        count(tally, number, 1);
-        if tally[FILLINGS] < 3 {
-            print_given(output, head)?;
+fn note<W: Write>(
+    kind: Kind,
+    tally: &mut Tally,
+    head: &[u8; 48],
+    output: &mut W,
+) -> io::Result<()> {
+    let number = numbers::four_at(head, 32) as usize;
+    match kind {
+        Kind::Filling => {
+            tally.count_filling(number);
+            if tally.fillings() < 3 {
+                print_given(output, head)?;
+            }
         }
-        return Ok(());
+        Kind::Places => tally.count_places(number, field(head, 16)),
+        Kind::File => tally.count_file(number),
     }
-    if head[0] == 3 {
-        count(tally, FILES, 1);
-        count(tally, number, 1);
-        return Ok(());
-    }
-    let questions = field(head, 16);
-    count(tally, PLACES, questions);
-    count(tally, number, questions);
     Ok(())
 }
 
-// Reads the body that belongs to a head, and checks the record.
-fn check_body<R: Read>(input: &mut R, head: &[u8; 48], body: &mut [u8]) -> io::Result<bool> {
-    let length = numbers::four_at(head, 4);
+// Reads the body that belongs to a head, checks the record, and answers its kind if it agrees.
+fn check_body<R: Read>(
+    input: &mut R,
+    head: &[u8; 48],
+    body: &mut [u8],
+) -> io::Result<Option<Kind>> {
+    let length = numbers::four_at(head, 4) as usize;
     if body.len() < length {
-        return Ok(false);
+        return Ok(None);
     }
     if streams::read_first(input, &mut body[..length])? < length {
-        return Ok(false);
+        return Ok(None);
     }
-    Ok(is_agreed(head, &body[..length]))
+    match Kind::try_from(head[0]) {
+        Ok(kind) if is_agreed(kind, head, &body[..length]) => Ok(Some(kind)),
+        _ => Ok(None),
+    }
 }
 
 // Checks one record and answers whether to go on: not after the last one, and not after a difference.
 fn check_next<R: Read, W: Write>(
     input: &mut R,
     output: &mut W,
-    tally: &mut [u64; 18],
+    tally: &mut Tally,
 ) -> io::Result<bool> {
     let mut head = [0u8; 48];
     let mut body = [0u8; 33000];
@@ -110,17 +113,21 @@ fn check_next<R: Read, W: Write>(
     if got == 0 {
         return Ok(false);
     }
-    count(tally, RECORDS, 1);
+    tally.count_record();
     if got < 48 {
-        count(tally, DIFFERENCES, 1);
+        tally.count_difference();
         return Ok(false);
     }
-    if !check_body(input, &head, &mut body)? {
-        count(tally, DIFFERENCES, 1);
-        return Ok(false);
+    match check_body(input, &head, &mut body)? {
+        Some(kind) => {
+            note(kind, tally, &head, output)?;
+            Ok(true)
+        }
+        None => {
+            tally.count_difference();
+            Ok(false)
+        }
     }
-    note(tally, &head, output)?;
-    Ok(true)
 }
 
 // A proved loop has to end, and nothing says that the input does: so it counts its turns, up to a
@@ -128,7 +135,7 @@ fn check_next<R: Read, W: Write>(
 fn check_all<R: Read, W: Write>(
     input: &mut R,
     output: &mut W,
-    tally: &mut [u64; 18],
+    tally: &mut Tally,
 ) -> io::Result<()> {
     for _ in 0..u64::MAX {
         if !check_next(input, output, tally)? {
@@ -138,32 +145,11 @@ fn check_all<R: Read, W: Write>(
     Ok(())
 }
 
-fn print_count<W: Write>(output: &mut W, tally: &[u64; 18], number: usize) -> io::Result<()>
-    requires { number < 18 }
-{
-    print_line(output, b"answered ", number as u64, b": ")?;
-    print_line(output, b"", tally[number], b"\n")
-}
-
-// How often each number of document 01 was answered.
-fn print_counts<W: Write>(output: &mut W, tally: &[u64; 18]) -> io::Result<()> {
-    for number in 0..13 {
-        print_count(output, tally, number)?;
-    }
-    Ok(())
-}
-
 // A read or a write that fails ends the run with its error.
 fn run<R: Read, W: Write>(input: &mut R, output: &mut W) -> io::Result<()> {
-    let mut tally = [0u64; 18];
+    let mut tally = Tally::new();
     check_all(input, output, &mut tally)?;
-    if tally[DIFFERENCES] != 0 {
-        return print_line(output, b"record ", tally[RECORDS], b" differs\n");
-    }
-    print_line(output, b"fillings ", tally[FILLINGS], b" agree\n")?;
-    print_line(output, b"places ", tally[PLACES], b" agree\n")?;
-    print_line(output, b"files ", tally[FILES], b" agree\n")?;
-    print_counts(output, &tally)
+    tally.print(output)
 }
 
 fn main(rt: HostRuntime) -> io::Result<()> {

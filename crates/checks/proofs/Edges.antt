@@ -3,7 +3,7 @@
 --     edge_crosses                   an edge that exists leads to its candidate
 --     crosses_to_law                     an edge that crosses leads to its candidate
 --     no_edge_crosses, calm_crosses  no edge, or a candidate that is not opposed
---     asked_in, far_asked            a decoded point and the far ends of its edges have samples
+--     edge_in                        the far end of an edge that exists is a point
 --     Marked, marked_more, marked    the seven answers, one after the other
 use Prim.Native.Nat.{ℕ, ◌+◌, ◌≤◌, ◌<◌}
 use native.Mathlib.Omega.{arith}
@@ -11,19 +11,17 @@ use mathlib.Core.Path.{◌≡◌, refl, sym, ap, subst, ◌∙◌}
 use mathlib.Core.Bool.{Bool, true, false}
 use mathlib.Core.List.{List}
 use lib.Dec.{T}
-use lib.IntN.{ℤ}
 use lib.ListN.{length, get_or, set, length-set}
 use lib.Seq.{get_or-set_same, get_or-set_other, ext_get_or}
 use borrow.Author.Count.{below_more}
+use Rattle.std.proofs.Common.{Some}
 use Rattle.lattice.specs.declared.Sizes.{Sizes}
 use Rattle.lattice.specs.declared.Site.{Site}
-use Rattle.lattice.specs.declared.Near.TheVariants.{At}
 use Rattle.lattice.specs.Counts.{Sized, points}
 use Rattle.lattice.specs.Direction.{Code}
 use Rattle.lattice.specs.Edge.{exists, neighbour}
 use Rattle.lattice.specs.Rim.{rim_at}
-use Rattle.lattice.specs.inner.Site.{Sited, index, most}
-use Rattle.lattice.proofs.Bounds.{points_small}
+use Rattle.lattice.specs.inner.Site.{Sited, index}
 use Rattle.lattice.proofs.Edge.{neighbour_lt}
 use Rattle.lattice.proofs.Sites.{site_inside, near_yes, near_no}
 use Rattle.moving.specs.declared.Label.{Label}
@@ -32,7 +30,7 @@ use Rattle.filling.specs.Check.{crosses, crosses_to}
 use Rattle.lines.specs.inner.Strides.{ends_at}
 use Rattle.lines.proofs.Sites.{site_lt, site_near}
 use Rattle.lines.proofs.FarEnds.{end_is}
-use Rattle.checks.specs.inner.Faults.{Asked, crossings_at}
+use Rattle.checks.specs.inner.Faults.{crossings_at}
 use Rattle.checks.proofs.Faults.{crossing_at}
 use Rattle.checks.proofs.Inner.{inner_exists}
 
@@ -48,13 +46,13 @@ module _ (s : Sizes) (q : Site) (h : Sized s) (g : Sited s q) (d : ℕ) (i : d <
   inner_there r = sym (inner_exists s q.kind (index q) (site_inside s q h g) r (d + 1) code)
 
   -- an edge that exists leads to its candidate
-  leads : there ≡ true → neighbour s q.own (d + 1) ≡ At (get_or (ends_at s q) d 0)
+  leads : there ≡ true → neighbour s q.own (d + 1) ≡ Some (get_or (ends_at s q) d 0)
   leads t =
       let n = near_yes s q.kind (index q) (d + 1) t in
-      site_near s q h g (d + 1) ∙ n ∙ ap At (sym (end_is s q g d i _ n))
+      site_near s q h g (d + 1) ∙ n ∙ ap Some (sym (end_is s q g d i _ n))
 
   module _ {far : ℕ} (f : far ≡ get_or (ends_at s q) d 0) where
-    edge_in : there ≡ true → far < points s
+    pub edge_in : there ≡ true → far < points s
     edge_in t = rw f (neighbour_lt s q.own (d + 1) _ (site_lt s q h g) code (leads t))
 
     module _ (label : ℕ → Label) where
@@ -68,11 +66,11 @@ module _ (s : Sizes) (q : Site) (h : Sized s) (g : Sited s q) (d : ℕ) (i : d <
           sym (ap (crosses_to s label q.own) (site_near s q h g (d + 1) ∙ near_no s q.kind (index q) (d + 1) t))
 
       -- an edge that crosses leads to its candidate, which is a point
-      pub crosses_to_law : crosses s label q.own d ≡ true → (neighbour s q.own (d + 1) ≡ At far) × (far < points s)
+      pub crosses_to_law : crosses s label q.own d ≡ true → (neighbour s q.own (d + 1) ≡ Some far) × (far < points s)
       crosses_to_law c = go there refl
         where
-          go : (t : Bool) → there ≡ t → (neighbour s q.own (d + 1) ≡ At far) × (far < points s)
-          go true t = (leads t ∙ ap At (sym f), edge_in t)
+          go : (t : Bool) → there ≡ t → (neighbour s q.own (d + 1) ≡ Some far) × (far < points s)
+          go true t = (leads t ∙ ap Some (sym f), edge_in t)
           go false t = absurd (subst T (sym (no_edge_crosses t ∙ c)) tt)
 
       -- a candidate that is not opposed settles it
@@ -82,17 +80,6 @@ module _ (s : Sizes) (q : Site) (h : Sized s) (g : Sited s q) (d : ℕ) (i : d <
           go : (t : Bool) → there ≡ t → crosses s label q.own d ≡ false
           go true t = sym (edge_crosses t) ∙ o
           go false t = sym (no_edge_crosses t)
-
--- a decoded point has a sample
-pub asked_in : {s : Sizes} {samples : List ℤ} {q : Site} → Asked s samples q
-    → (q.own < length samples) × (length samples ≤ most)
-asked_in {s} {q = q} a =
-    (omega (arith, a.long, site_lt s q a.sized a.sited), omega (arith, a.long, points_small s a.sized))
-
--- so has the far end of an edge that exists
-pub far_asked : {s : Sizes} {samples : List ℤ} {q : Site} (a : Asked s samples q) {d far : ℕ} → d < 7 → far ≡ get_or (ends_at s q) d 0
-    → exists s q.kind (index q) (d + 1) ≡ true → far < length samples
-far_asked {s} {q = q} a {d} i f t = omega (arith, a.long, edge_in s q a.sized a.sited d i f t)
 
 -- the answers in the directions before d
 pub record Marked (s : Sizes) (label : ℕ → Label) (p : ℕ) (must : List Bool) (d : ℕ) : Type 0 where

@@ -1,30 +1,30 @@
 -- Bytes at fault: of a point, of a line, of a table. Assumes nothing.
 --     gap_at, none_at, stray_at, cut_at       a byte that is zero or not, where there must be a cut or must be none
 --     byte_fine                               the same for a byte of a table
---     fine_of, gap_of, stray_of               what an answer says
 --     wide, raise_fine, raise_wrong, whole_rest   an answer of a part in the whole
 --     seven_is                                a point's seven bytes in the table
---     answer_fine, answer_gap, answer_stray   the answer for a whole table
+--     answer_fine, answer_wrong               the answer for a whole table
 use Prim.Native.Nat.{ℕ, ◌+◌, ◌*◌, ◌-◌, ◌/◌, ◌%◌, ◌≤◌, ◌<◌}
 use native.Mathlib.Omega.{arith}
 use mathlib.Core.Path.{◌≡◌, refl, sym, ap, subst, ◌∙◌}
 use mathlib.Core.Bool.{Bool, true, false, not}
 use mathlib.Core.List.{List}
-use lib.Dec.{eqb, ltb}
+use mathlib.Core.Logic.{◌⊎◌, inl, inr}
+use lib.Dec.{T, eqb, ltb}
 use lib.ListN.{get_or, take, drop}
 use lib.Seq.{get_or-take, get_or-drop}
 use borrow.Author.Tests.{eq-eqb, ne_eqb, lt-ltb, le-ltb}
-use Rattle.std.specs.Prelude.{if◌then◌else◌}
+use Rattle.std.specs.Prelude.{if◌then◌else◌, Result, Ok, Err}
 use Rattle.lattice.specs.declared.Sizes.{Sizes}
 use Rattle.lattice.specs.Counts.{points}
 use Rattle.lattice.proofs.Sites.{by_direction}
 use Rattle.moving.specs.declared.Label.{Label}
 use Rattle.filling.specs.Check.{crosses, cut_fault, first_cut}
 use Rattle.checks.specs.declared.Fault.{Fault}
-use Rattle.checks.specs.declared.Fault.TheVariants.{Fine, Gap, Stray}
+use Rattle.checks.specs.declared.Fault.TheVariants.{Gap, Stray}
 use Rattle.checks.specs.inner.Search.{Throughout}
-use Rattle.checks.specs.inner.Faults.{CutAnswer, Wrong, Answered, fine, gap, stray, number_at, seven_fault, crossings_at}
-use Rattle.checks.proofs.Search.{none_yet, joined, here, first_lowest, none_lowest}
+use Rattle.checks.specs.inner.Faults.{CutAnswer, Wrong, Answered, fault_number, fault_offset, number_at, seven_fault, crossings_at}
+use Rattle.checks.proofs.Search.{none_yet, one_more, joined, here, first_lowest, none_lowest}
 
 module _ (must : List Bool) (bytes : List ℕ) (d : ℕ) where
   pub gap_at : get_or must d false ≡ true → get_or bytes d 0 ≡ 0 → seven_fault must bytes d ≡ 6
@@ -43,29 +43,24 @@ module _ (must : List Bool) (bytes : List ℕ) (d : ℕ) where
   unfolding seven_fault number_at
   cut_at m e = simp (m, ne_eqb _ 0 e)
 
--- what an answer says, by the fault that it is
-module _ {fault : ℕ → ℕ} {a e : ℕ} {r : Fault} (w : Answered fault a e r) where
-  pub fine_of : r ≡ Fine → Throughout fault 0 a e
-  fine_of h = go (subst (Answered fault a e) h w)
-    where
-      go : Answered fault a e Fine → Throughout fault 0 a e
-      go (fine t) = t
-
-  pub gap_of : {o : ℕ} → r ≡ Gap o → Wrong fault a e 6 o
-  gap_of {o} h = go (subst (Answered fault a e) h w)
-    where
-      go : Answered fault a e (Gap o) → Wrong fault a e 6 o
-      go (gap t) = t
-
-  pub stray_of : {o : ℕ} → r ≡ Stray o → Wrong fault a e 7 o
-  stray_of {o} h = go (subst (Answered fault a e) h w)
-    where
-      go : Answered fault a e (Stray o) → Wrong fault a e 7 o
-      go (stray t) = t
-
 -- the first fault of a part, where nothing was before it
-pub wrong_here : {fault : ℕ → ℕ} {e n o : ℕ} → o < e → fault o ≡ n → Throughout fault 0 0 o → Wrong fault 0 e n o
+wrong_here : {fault : ℕ → ℕ} {e n o : ℕ} → o < e → fault o ≡ n → Throughout fault 0 0 o → Wrong fault 0 e n o
 wrong_here h i t = record { low = omega arith; high = h; number = i; before = t }
+
+-- the first of a point's seven bytes that is at fault, and one more that is not
+module _ (must : List Bool) (bytes : List ℕ) {d : ℕ} (w : Throughout (seven_fault must bytes) 0 0 d) where
+  pub gap_here : get_or must d false ≡ true → get_or bytes d 0 ≡ 0 → d < 7 → Wrong (seven_fault must bytes) 0 7 6 d
+  gap_here m e h = wrong_here h (gap_at must bytes d m e) w
+
+  pub stray_here : get_or must d false ≡ false → (get_or bytes d 0 ≡ 0 → ⊥) → d < 7 → Wrong (seven_fault must bytes) 0 7 7 d
+  stray_here m e h = wrong_here h (stray_at must bytes d m e) w
+
+  -- what the code's two tests leave
+  pub none_more : ((get_or must d false ≡ true) × (get_or bytes d 0 ≡ 0 → ⊥)) ⊎ (get_or must d false ≡ false)
+      → ((get_or must d false ≡ false) × (get_or bytes d 0 ≡ 0)) ⊎ (get_or must d false ≡ true) → Throughout (seven_fault must bytes) 0 0 (d + 1)
+  none_more (inl f) g = one_more w (cut_at must bytes d f.0 f.1)
+  none_more (inr f) (inl g) = one_more w (none_at must bytes d f g.1)
+  none_more (inr f) (inr g) = absurd (subst T (sym g ∙ f) tt)
 
 -- the first fault of a part is that of the whole, if there is none before the part
 pub wide : {fault : ℕ → ℕ} {b a e z n o : ℕ} → Throughout fault 0 b a → b ≤ a → e ≤ z
@@ -74,8 +69,8 @@ wide t h i w =
     record { low = omega (arith, w.low); high = omega (arith, w.high); number = w.number; before = joined t w.before }
 
 -- the rest of a line from its first point on is the line
-pub whole_rest : {fault : ℕ → ℕ} (own : ℕ) {e : ℕ} {r : Fault} → Answered fault (7 * (own + 0)) e r → Answered fault (7 * own) e r
-whole_rest {fault} own {e} {r} w = let z : own + 0 ≡ own = omega arith in subst (λ (k : ℕ). Answered fault (7 * k) e r) z w
+pub whole_rest : (fault : ℕ → ℕ) (own e : ℕ) (r : Result (Unit {0}) Fault) → Answered fault (7 * (own + 0)) e r → Answered fault (7 * own) e r
+whole_rest fault own e r w = let z : own + 0 ≡ own = omega arith in subst (λ (k : ℕ). Answered fault (7 * k) e r) z w
 
 -- a part whose numbers are counted from a on
 module _ {part whole : ℕ → ℕ} {a m : ℕ} (same : (d : ℕ) → d < m → part d ≡ whole (a + d)) where
@@ -125,22 +120,24 @@ module _ (s : Sizes) (label : ℕ → Label) where
     tested : {a e : ℕ} → Throughout (cut_fault s label cuts) 0 a e → Throughout (λ o. not (eqb (cut_fault s label cuts o) 0)) false a e
     tested t = record { is = λ j l u. ap (λ (n : ℕ). not (eqb n 0)) (t.is j l u) }
 
-    pub answer_fine : {p : ℕ} → points s ≤ p → Throughout (cut_fault s label cuts) 0 0 (7 * p) → CutAnswer s label cuts Fine
+    pub answer_fine : {p : ℕ} → points s ≤ p → Throughout (cut_fault s label cuts) 0 0 (7 * p) → CutAnswer s label cuts (Ok tt)
     answer_fine h t =
         let e : 7 * points s ≡ first_cut s label cuts = none_lowest (tested t) (omega arith) in
         record { place = e; number = subst (λ (o : ℕ). 0 ≡ number_from o) e (simp (le-ltb (7 * points s) (7 * points s) (omega arith))) }
 
-    answer_wrong : {n o : ℕ} → not (eqb n 0) ≡ true → Wrong (cut_fault s label cuts) 0 (7 * points s) n o
-        → (o ≡ first_cut s label cuts) × (n ≡ number_from (first_cut s label cuts))
-    answer_wrong {n} {o} t w = (e, subst (λ (k : ℕ). n ≡ number_from k) e (simp (lt-ltb o (7 * points s) w.high) (sym w.number)))
+    is_number : (f : Fault) → not (eqb (fault_number f) 0) ≡ true
+    is_number (Gap o) = refl
+    is_number (Stray o) = refl
+
+    pub answer_wrong : {f : Fault} → Wrong (cut_fault s label cuts) 0 (7 * points s) (fault_number f) (fault_offset f)
+        → CutAnswer s label cuts (Err f)
+    answer_wrong {f} w =
+        record {
+          place = e;
+          number = subst (λ (k : ℕ). fault_number f ≡ number_from k) e (simp (lt-ltb (fault_offset f) (7 * points s) w.high) (sym w.number));
+        }
       where
-        e : o ≡ first_cut s label cuts
+        e : fault_offset f ≡ first_cut s label cuts
         e =
             first_lowest (none_yet (omega arith))
-            (here w.low w.high (ap (λ (k : ℕ). not (eqb k 0)) w.number ∙ t) (tested w.before)) w.high (omega arith)
-
-    pub answer_gap : {o : ℕ} → Wrong (cut_fault s label cuts) 0 (7 * points s) 6 o → CutAnswer s label cuts (Gap o)
-    answer_gap w = let a = answer_wrong refl w in record { place = a.0; number = a.1 }
-
-    pub answer_stray : {o : ℕ} → Wrong (cut_fault s label cuts) 0 (7 * points s) 7 o → CutAnswer s label cuts (Stray o)
-    answer_stray w = let a = answer_wrong refl w in record { place = a.0; number = a.1 }
+            (here w.low w.high (ap (λ (k : ℕ). not (eqb k 0)) w.number ∙ is_number f) (tested w.before)) (omega arith)

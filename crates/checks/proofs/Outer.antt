@@ -18,8 +18,8 @@ use Rattle.filling.specs.Check.{rim_fault}
 use Rattle.lines.specs.inner.Lines.{Line}
 use Rattle.lines.proofs.Points.{rim_at_law}
 use Rattle.lines.proofs.Lines.{line_at_law, some}
-use Rattle.checks.specs.inner.Search.{Throughout, FirstIn}
-use Rattle.checks.proofs.Search.{none_yet, one_more, joined, upto, here, nowhere}
+use Rattle.checks.specs.inner.Search.{Throughout, First}
+use Rattle.checks.proofs.Search.{none_yet, one_more, joined, upto, here}
 
 or_true : (b : Bool) → (b || true) ≡ true
 or_true true = refl
@@ -80,7 +80,7 @@ module _ (s : Sizes) (label : ℕ → Label) where
           let e : p - p ≡ 0 = omega arith in
           on_rim p (rim_inner p (omega arith) (omega (arith, some s h q.kind)) ∙ ap (outermost long) e ∙ first_outermost long)
 
-      pub inner_first : is_plus (label p) ≡ true → FirstIn (rim_fault s label) p (p + long) p
+      pub inner_first : is_plus (label p) ≡ true → First (rim_fault s label) p (p + long) p
       inner_first t = here (omega arith) (omega (arith, some s h q.kind)) (at_first ∙ t) (none_yet (omega arith))
 
       -- j is the last point of the line
@@ -99,9 +99,8 @@ module _ (s : Sizes) (label : ℕ → Label) where
         before_last : Throughout (rim_fault s label) false p j
         before_last = joined (one_more (none_yet (omega arith)) (at_first ∙ f)) between
 
-        pub inner_last : is_plus (label j) ≡ true → FirstIn (rim_fault s label) p (p + long) j
+        pub inner_last : is_plus (label j) ≡ true → First (rim_fault s label) p (p + long) j
         inner_last t = here (omega (arith, some s h q.kind)) (omega arith) (at_last ∙ t) before_last
 
-        pub inner_none : is_plus (label j) ≡ false → (r : ℕ) → r ≡ p + long → FirstIn (rim_fault s label) p (p + long) r
-        inner_none t r i =
-            rw i (nowhere (omega arith) (upto (omega arith) (one_more before_last (at_last ∙ t))))
+        pub inner_none : is_plus (label j) ≡ false → Throughout (rim_fault s label) false p (p + long)
+        inner_none t = upto (omega arith) (one_more before_last (at_last ∙ t))

@@ -6,20 +6,18 @@ use crate::Fault;
 
 // The first of a point's seven bytes that is at fault. must[d] says that the edge in direction d
 // must have a cut. Offsets are counted from the point's first byte: nothing is known of the table.
-pub fn point_fault(bytes: &[u8], must: [bool; 7]) -> Fault
+#[tactic(auto, using(crate::proofs::Faults::gap_here, crate::proofs::Faults::stray_here))]
+pub fn point_fault(bytes: &[u8], must: [bool; 7]) -> Result<(), Fault>
     requires { length bytes.now ≡ 7 }
     ensures { Answered (seven_fault must bytes.now) 0 7 result }
 {
-    for d in 0..7 {
-        if must[d] {
-            if bytes[d] == 0 {
-                return Fault::Gap(d);
-            }
-        } else {
-            if bytes[d] != 0 {
-                return Fault::Stray(d);
-            }
+    for (d, &crosses) in must.iter().enumerate() {
+        if crosses && bytes[d] == 0 {
+            return Err(Fault::Gap(d));
+        }
+        if !crosses && bytes[d] != 0 {
+            return Err(Fault::Stray(d));
         }
     }
-    Fault::Fine
+    Ok(())
 }

@@ -9,12 +9,11 @@ use lib.IntN.{ℤ, pos, ◌+ℤ◌, ◌*ℤ◌}
 use lib.ListN.{get_or}
 use lib.Dec.{T}
 use borrow.Author.Tests.{lt-ltb, le-ltb}
-use Rattle.std.specs.Prelude.{if◌then◌else◌}
+use Rattle.std.specs.Prelude.{if◌then◌else◌, Some}
 use Rattle.basics.proofs.Test.{true_T}
 use Rattle.basics.proofs.Integer.{ring, nat, int, ◌⊕◌, ◌⊗◌}
 use Rattle.lattice.specs.declared.Sizes.{Sizes}
 use Rattle.lattice.specs.declared.Kind.{Kind}
-use Rattle.lattice.specs.declared.Near.TheVariants.{At}
 use Rattle.lattice.specs.Axis.{Axis}
 use Rattle.lattice.specs.Counts.{points}
 use Rattle.lattice.specs.Point.{doubled, Inside, number}
@@ -69,7 +68,7 @@ module _ {m : Reading} (codes : List ℕ) (fits : Fits m) where
   unchanged p t = label_still m.label codes p (nonzero_still m.label codes p t)
 
   -- an edge whose ends are opposed after moving has a byte
-  pub edge_byte_law : (p d q : ℕ) → p < points m.sizes → d < 7 → neighbour m.sizes p (as_start d) ≡ At q
+  pub edge_byte_law : (p d q : ℕ) → p < points m.sizes → d < 7 → neighbour m.sizes p (as_start d) ≡ Some q
       → T (opposed (final_label m codes p) (final_label m codes q)) → 0 < get_or m.cuts (byte_at p d) 0
   edge_byte_law p d q l u to t =
       let here = unchanged p (opposed_near (final_label m codes p) (final_label m codes q) t) in
@@ -145,7 +144,7 @@ module _ {m : Reading} (codes : List ℕ) (fits : Fits m) where
     -- an edge by the kinds and indices of its ends
     edge_near : (k l : Kind) (i j : Axis → ℕ) (d : ℕ) → Inside m.sizes k i → Inside m.sizes l j → d < 7
         → ((a : Axis) → doubled l (j a) + (direction d a).down ≡ doubled k (i a) + (direction d a).up)
-        → neighbour m.sizes (number m.sizes k i) (as_start d) ≡ At (number m.sizes l j)
+        → neighbour m.sizes (number m.sizes k i) (as_start d) ≡ Some (number m.sizes l j)
     edge_near k l i j d x y u e =
         near_number m.sizes k i x (as_start d)
         ∙ leads_near m.sizes k i (as_start d) l j x y (record { low = omega arith; high = omega arith })

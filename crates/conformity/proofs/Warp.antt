@@ -7,10 +7,9 @@ use mathlib.Core.List.{List}
 use lib.IntN.{pos, ◌+ℤ◌, ◌*ℤ◌}
 use lib.ListN.{get_or}
 use lib.Dec.{T}
-use Rattle.std.specs.Prelude.{if◌then◌else◌}
+use Rattle.std.specs.Prelude.{if◌then◌else◌, Some}
 use Rattle.basics.proofs.Test.{T_true}
 use Rattle.lattice.specs.declared.Kind.{Kind}
-use Rattle.lattice.specs.declared.Near.TheVariants.{At}
 use Rattle.lattice.specs.Axis.{Axis}
 use Rattle.lattice.specs.Point.{doubled, Inside, number}
 use Rattle.lattice.specs.Direction.{Code, is_start, direction_of, step}
@@ -74,7 +73,7 @@ module _ (m : Reading) (k : Kind) (i : Axis → ℕ) (inside : Inside m.sizes k 
     warped codes c q v =
         let e = v.edge in
         let t = cut_along m p c q in
-        let leads : near m.sizes k i c ≡ At q = sym (near_number m.sizes k i inside c) ∙ e.leads in
+        let leads : near m.sizes k i c ≡ Some q = sym (near_number m.sizes k i inside c) ∙ e.leads in
         record {
           code = e.code;
           t = measured c t;

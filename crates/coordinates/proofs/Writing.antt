@@ -1,6 +1,6 @@
 -- Nodes written one after the other, by bits and by words. Assumes nothing.
 --     wrote_as, written_as     a table and an index under other names
---     four_written             the four numbers of a node
+--     node_written             the four numbers of a node
 --     if_set, if_not           an id that passes gives its four numbers, another gives none
 --     four_each                so many numbers are written
 --     bit_written, bit_passed  one id more
@@ -11,9 +11,11 @@ use native.Mathlib.Numerals.{add-one}
 use mathlib.Core.Path.{◌≡◌, refl, sym, ap, ◌∙◌}
 use mathlib.Core.Bool.{Bool, true, false}
 use mathlib.Core.List.{List, [], ◌∷◌, ◌++◌}
-use lib.ListN.{length, get_or, set, length-append}
-use lib.Seq.{length-sets}
+use lib.ListN.{length, get_or, take, drop, length-append}
+use lib.Seq.{length-sets, sets-eq, drop-drop}
+use borrow.Rule.Slice.PartMut.{put_mid}
 use Rattle.std.specs.Prelude.{if◌then◌else◌}
+use Rattle.std.proofs.Common.{append_assoc}
 use Rattle.basics.specs.Lists.{gather, from, below, count}
 use Rattle.basics.specs.inner.Writing.{Wrote}
 use Rattle.basics.proofs.Search.{count_none, count_parts}
@@ -38,15 +40,28 @@ pub written_as : {f : ℕ → List ℕ} {l now next : List ℕ} {i k at on : ℕ
     → Written f l i k next on
 written_as w e g = record { now_is = e ∙ w.now_is; at_is = g ∙ w.at_is }
 
--- the four numbers of a node, stored one after the other
-pub four_written : {p q : Placed} (id at : ℕ) (l : List ℕ) → p ≡ q
-    → Wrote (node_of id q) l at (set (set (set (set l at id) (at + 1) p.x) (at + 2) p.y) (at + 3) p.z) (at + 4)
+-- numbers that were copied into a part of the table
+part_written : (ids l ys : List ℕ) (at n : ℕ) → length ids ≡ n → at + n ≤ length l → ys ≡ ids
+    → Wrote ids l at (put_mid at (at + n - at) l ys) (at + n)
+part_written ids l ys at n e h q =
+    let here : at + n - at ≡ n = omega arith in
+    let end : at + n ≡ at + length ids = omega arith in
+    let after : drop n (drop at l) ≡ drop (at + length ids) l = drop-drop n at l ∙ ap (λ (k : ℕ). drop k l) end in
+    record {
+      now_is =
+          ap (λ (k : ℕ). put_mid at k l ys) here
+          ∙ ap (λ (zs : List ℕ). take at l ++ (zs ++ drop n (drop at l))) q
+          ∙ ap (λ (zs : List ℕ). take at l ++ (ids ++ zs)) after
+          ∙ sym (append_assoc (take at l) ids (drop (at + length ids) l))
+          ∙ sym (sets-eq ids l at (omega arith));
+      to_is = end;
+    }
+
+-- the four numbers of a node
+pub node_written : {p q : Placed} {id at : ℕ} {l ys : List ℕ} → at + 4 ≤ length l → ys ≡ id ∷ p.x ∷ p.y ∷ p.z ∷ []
+    → p ≡ q → Wrote (node_of id q) l at (put_mid at (at + 4 - at) l ys) (at + 4)
 unfolding node_of
-four_written {p} {q} id at l e =
-    let a : at + 1 ≡ suc at = omega arith in
-    let b : at + 2 ≡ suc (suc at) = omega arith in
-    let c : at + 3 ≡ suc (suc (suc at)) = omega arith in
-    record { now_is = rw (e, a, b, c) refl; to_is = refl }
+node_written {q = q} {id} {at} {l} {ys} h e a = part_written (node_of id q) l ys at 4 refl h (e ∙ rw a refl)
 
 module _ (s : Sizes) (cuts state : List ℕ) where
   module _ (test : ℕ → Bool) (lo : ℕ) where

@@ -3,3 +3,12 @@
 
 pub mod check;
 pub mod write;
+
+use refusals::Refusal;
+
+// An entry of a row table whose id has no place, and why.
+#[derive(Clone, Copy)]
+pub struct RefusedEntry {
+    pub entry: usize,
+    pub refusal: Refusal,
+}

@@ -10,17 +10,14 @@ ghost use Rattle.coordinates.specs.inner.Marked.{node_if};
 use lattice::Sizes;
 use places::locate;
 
-// An id and its three coordinates.
+// An id and its three coordinates, 0 where it has no place.
 fn write_node(s: Sizes, cuts: &[u8], state: &[u8], nodes: &mut [u32], at: usize, id: usize) -> usize
     requires at_in_bounds { at + 4 ≤ length nodes.old }
     requires id_bound { id < 2 ^ 32 }
     ensures { Wrote (node_of id (locate s cuts.now state.now id)) nodes.old at nodes.new result }
 {
     let p = locate::locate_id(s, cuts, state, id);
-    nodes[at] = id as u32;
-    nodes[at + 1] = p.x;
-    nodes[at + 2] = p.y;
-    nodes[at + 3] = p.z;
+    nodes[at..at + 4].copy_from_slice(&[id as u32, p.x, p.y, p.z]);
     at + 4
 }
 
@@ -48,7 +45,7 @@ fn write_word(
     to
 }
 
-// The ids that are marked in a window.
+// The ids that are marked in a window. The tables are no `Stored`: nodes are written for tables of any lengths.
 pub fn write_bits(
     s: Sizes,
     cuts: &[u8],
@@ -64,10 +61,9 @@ pub fn write_bits(
         (below (64 * length bits.now))) nodes.old at nodes.new result }
 {
     let mut to = at;
-    for w in 0..bits.len() {
-        let word = bits[w];
-        if word != 0 {
-            to = write_word(s, cuts, state, word, lo + 64 * w, nodes, to);
+    for (w, word) in bits.iter().enumerate() {
+        if *word != 0 {
+            to = write_word(s, cuts, state, *word, lo + 64 * w, nodes, to);
         }
     }
     to

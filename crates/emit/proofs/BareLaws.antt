@@ -1,17 +1,19 @@
 -- Laws of runs of cubes without a plus. Assumes nothing.
-use Prim.Native.Nat.{ℕ, ◌+◌, ◌-◌, ◌<◌, ◌≤◌}
+use Prim.Native.Nat.{ℕ, zero, suc, ◌+◌, ◌-◌, ◌<◌, ◌≤◌}
 use native.Mathlib.Omega.{arith}
-use mathlib.Core.Path.{◌≡◌}
+use mathlib.Core.Path.{◌≡◌, refl}
 use mathlib.Core.Bool.{true, false}
 use mathlib.Core.List.{List}
+use mathlib.Core.Logic.{inl, inr}
 use lib.IntN.{ℤ, pos}
 use lib.ListN.{get_or}
 use Rattle.moving.specs.declared.Label.{Label}
 use Rattle.moving.specs.Label.{labels}
+use Rattle.moving.proofs.Bytes.{same_or}
 use Rattle.labelling.specs.inner.Labels.{has_label}
 use Rattle.emit.specs.declared.Cube.{Cube}
-use Rattle.emit.specs.inner.Cubes.{Light, plus_at, plus_count}
-use Rattle.emit.specs.inner.Passes.{moved_cube, KnownRun}
+use Rattle.emit.specs.inner.Cubes.{point_of, Light, plus_at, plus_count}
+use Rattle.emit.specs.inner.Passes.{shifted, KnownRun}
 
 -- a line of samples none of which is above the band
 pub light_line : (band : ℕ) (samples : List ℤ) (from count : ℕ)
@@ -19,51 +21,43 @@ pub light_line : (band : ℕ) (samples : List ℤ) (from count : ℕ)
 unfolding has_label plus_at labels
 light_line band samples from count h x l = simp (h (from + x) (omega arith) (omega (arith, l)))
 
--- the six lines of points of cubes side by side
-module _ (label : ℕ → Label) (step : Cube) (corner centre count : ℕ) where
-  pub record LightRun : Type 0 where
-    pub low_light : Light label (centre + step.low) count
-    pub high_light : Light label (centre + step.high) count
-    pub mm_light : Light label (corner + step.mm) count
-    pub pm_light : Light label (corner + step.pm) count
-    pub pp_light : Light label (corner + step.pp) count
-    pub mp_light : Light label (corner + step.mp) count
+-- one line more
+pub light_more : (label : ℕ → Label) (first : Cube) (count k : ℕ) → ((i : ℕ) → i < k → Light label (point_of first i) count)
+    → Light label (point_of first k) count → (i : ℕ) → i < k + 1 → Light label (point_of first i) count
+light_more label first count k before last i h =
+    elim (same_or i k) [
+      | inl e ↦ rw e last
+      | inr n ↦ before i (omega (arith, n))
+    ]
 
-  none_at : (p q : ℕ) → p ≡ q → plus_at label p ≡ 0 → plus_at label q ≡ 0
-  none_at p q same h = rw same at h
+-- the six points of a cube that is so many on
+pub shifted_point : (c : Cube) (x i : ℕ) → i < 6 → point_of (shifted c x) i ≡ point_of c i + x
+unfolding shifted
+shifted_point c x zero h = refl
+shifted_point c x (suc zero) h = refl
+shifted_point c x (suc (suc zero)) h = refl
+shifted_point c x (suc (suc (suc zero))) h = refl
+shifted_point c x (suc (suc (suc (suc zero)))) h = refl
+shifted_point c x (suc (suc (suc (suc (suc zero))))) h = refl
+shifted_point c x (suc (suc (suc (suc (suc (suc i)))))) h = absurd (omega arith)
 
-  pub bare_run : LightRun → (x : ℕ) → x < count → plus_count label (moved_cube step (corner + x) (centre + x)) ≡ 0
-  unfolding plus_count moved_cube
-  bare_run r x h =
-      omega (
-        arith,
-        none_at (centre + step.low + x) (centre + x + step.low) (omega arith) (r.low_light x h),
-        none_at (centre + step.high + x) (centre + x + step.high) (omega arith) (r.high_light x h),
-        none_at (corner + step.mm + x) (corner + x + step.mm) (omega arith) (r.mm_light x h),
-        none_at (corner + step.pm + x) (corner + x + step.pm) (omega arith) (r.pm_light x h),
-        none_at (corner + step.pp + x) (corner + x + step.pp) (omega arith) (r.pp_light x h),
-        none_at (corner + step.mp + x) (corner + x + step.mp) (omega arith) (r.mp_light x h),
-      )
+-- the six lines of points of cubes side by side, of which none has a plus
+pub bare_run : (label : ℕ → Label) (first : Cube) (count : ℕ) → ((i : ℕ) → i < 6 → Light label (point_of first i) count)
+    → (x : ℕ) → x < count → plus_count label (shifted first x) ≡ 0
+unfolding plus_count shifted
+bare_run label first count light x h =
+    omega (
+      arith,
+      light 0 (omega arith) x h,
+      light 1 (omega arith) x h,
+      light 2 (omega arith) x h,
+      light 3 (omega arith) x h,
+      light 4 (omega arith) x h,
+      light 5 (omega arith) x h,
+    )
 
--- the six lines end among n points
-pub record Ends (n : ℕ) (step : Cube) (corner centre count : ℕ) : Type 0 where
-  pub low_ends : centre + step.low + count ≤ n
-  pub high_ends : centre + step.high + count ≤ n
-  pub mm_ends : corner + step.mm + count ≤ n
-  pub pm_ends : corner + step.pm + count ≤ n
-  pub pp_ends : corner + step.pp + count ≤ n
-  pub mp_ends : corner + step.mp + count ≤ n
-
-pub run_ends : {n : ℕ} {step : Cube} {corner centre count : ℕ} → KnownRun n step corner centre count → (count ≡ 0 → ⊥)
-    → Ends n step corner centre count
-unfolding moved_cube
-run_ends {count = count} k some =
-    let last = k.known (count - 1) (omega (arith, some)) in
-    record {
-      low_ends = omega (arith, some, last.low_in);
-      high_ends = omega (arith, some, last.high_in);
-      mm_ends = omega (arith, some, last.mm_in);
-      pm_ends = omega (arith, some, last.pm_in);
-      pp_ends = omega (arith, some, last.pp_in);
-      mp_ends = omega (arith, some, last.mp_in);
-    }
+-- each of them ends among n points
+pub run_ends : {n : ℕ} {first : Cube} {count : ℕ} → KnownRun n first count → 1 ≤ count → (i : ℕ) → i < 6 → point_of first i + count ≤ n
+run_ends {n} {first} {count} k some i h =
+    let last = k.known (count - 1) (omega arith) in
+    omega (arith, last.points_in i h, shifted_point first (count - 1) i h)

@@ -1,8 +1,8 @@
 pub mod Room
-pub mod WeightLaws
+pub mod LabelLaws
 pub mod CubeLaws
 pub mod BareLaws
-pub mod PassLaws
 pub mod Numbers
+pub mod PassLaws
 pub mod Table
 pub mod Oriented

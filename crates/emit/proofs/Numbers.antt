@@ -1,5 +1,5 @@
 -- The six points of a cube by strides are the corners of its four tetrahedra, and points of the block. Assumes nothing.
-use Prim.Native.Nat.{ℕ, ◌+◌, ◌*◌, ◌-◌, ◌≤◌, ◌<◌}
+use Prim.Native.Nat.{ℕ, zero, suc, ◌+◌, ◌*◌, ◌-◌, ◌≤◌, ◌<◌}
 use native.Mathlib.Omega.{arith}
 use native.Mathlib.Nat.{mul-add, mul_comm, mul_assoc}
 use mathlib.Core.Path.{◌≡◌, refl, sym, ap, ◌∙◌}
@@ -21,18 +21,18 @@ use Rattle.stencil.proofs.Corners.{the_vertices, the_quarters}
 use Rattle.stencil.proofs.Valid.{corner_inside}
 use Rattle.emit.specs.declared.Cube.{Cube}
 use Rattle.rows.specs.inner.Corners.{corner_of}
-use Rattle.emit.specs.inner.Cubes.{face_at, low_end, high_end, KnownCube, quarter_of}
-use Rattle.emit.specs.inner.Passes.{moved_cube, first_corner, first_centre, KnownRun, step_by, pass_of, InPass}
+use Rattle.emit.specs.inner.Cubes.{point_of, face_at, low_end, high_end, KnownCube, quarter_of}
+use Rattle.emit.specs.inner.Passes.{moved_cube, shifted, first_cube, first_corner, first_centre, KnownRun, step_by, pass_of, InPass}
 
 -- the six points: a centre or a corner of the shared face
 pub data Six : Type 0 where
   lower upper : Six
   face : Quarter → Six
 
-abbrev pub point_of : Cube → Six → ℕ
-point_of c lower = c.low
-point_of c upper = c.high
-point_of c (face q) = face_at c q
+abbrev pub six_point : Cube → Six → ℕ
+six_point c lower = point_of c 0
+six_point c upper = point_of c 1
+six_point c (face q) = face_at c q
 
 abbrev pub six_kind : Six → Kind
 six_kind lower = Centre
@@ -51,7 +51,7 @@ among e v1 = face (high_end e)
 among e v2 = lower
 among e v3 = upper
 
-corner_of_law : (c : Cube) (e : Quarter) (v : Vertex) → corner_of (quarter_of c e) v ≡ point_of c (among e v)
+corner_of_law : (c : Cube) (e : Quarter) (v : Vertex) → corner_of (quarter_of c e) v ≡ six_point c (among e v)
 corner_of_law c e v0 = refl
 corner_of_law c e v1 = refl
 corner_of_law c e v2 = refl
@@ -80,11 +80,11 @@ offset_is a e v c =
     eqb→eq _ _ (each_use the_axes (same_offset a e v) w c)
 
 -- a cell so far from the first of its line, by strides
-shifted : (m : Axis → ℕ) (x y z : ℕ) (d : Axis → ℕ)
+shifted_cell : (m : Axis → ℕ) (x y z : ℕ) (d : Axis → ℕ)
     → linear m (λ c. xyz x y z c + d c)
     ≡ linear m (xyz 0 y z) + x + (d along_x + (d along_y * m along_x + d along_z * (m along_x * m along_y)))
 unfolding linear
-shifted m x y z d = omega (arith, spread)
+shifted_cell m x y z d = omega (arith, spread)
   where
     inner : y + d along_y + m along_y * (z + d along_z) ≡ y + m along_y * z + (d along_y + m along_y * d along_z)
     inner = omega (arith, mul-add (m along_y) z (d along_z))
@@ -107,26 +107,26 @@ shifted m x y z d = omega (arith, spread)
 stride : Sizes → Kind → (Axis → ℕ) → ℕ
 stride s k d = d along_x + (d along_y * grid s k along_x + d along_z * (grid s k along_x * grid s k along_y))
 
-stride_is : (s : Sizes) (n : ℕ) (a : Axis) (p : Six) → point_of (pass_of s n a).step p ≡ stride s (six_kind p) (six_offset a p)
+stride_is : (s : Sizes) (a : Axis) (p : Six) → six_point (pass_of s a).step p ≡ stride s (six_kind p) (six_offset a p)
 unfolding pass_of step_by stride unit around
-stride_is s n along_x lower = omega arith
-stride_is s n along_x upper = omega arith
-stride_is s n along_x (face q0) = omega arith
-stride_is s n along_x (face q1) = omega arith
-stride_is s n along_x (face q2) = omega arith
-stride_is s n along_x (face q3) = omega arith
-stride_is s n along_y lower = omega arith
-stride_is s n along_y upper = omega arith
-stride_is s n along_y (face q0) = omega arith
-stride_is s n along_y (face q1) = omega arith
-stride_is s n along_y (face q2) = omega arith
-stride_is s n along_y (face q3) = omega arith
-stride_is s n along_z lower = omega arith
-stride_is s n along_z upper = omega arith
-stride_is s n along_z (face q0) = omega arith
-stride_is s n along_z (face q1) = omega arith
-stride_is s n along_z (face q2) = omega arith
-stride_is s n along_z (face q3) = omega arith
+stride_is s along_x lower = omega arith
+stride_is s along_x upper = omega arith
+stride_is s along_x (face q0) = omega arith
+stride_is s along_x (face q1) = omega arith
+stride_is s along_x (face q2) = omega arith
+stride_is s along_x (face q3) = omega arith
+stride_is s along_y lower = omega arith
+stride_is s along_y upper = omega arith
+stride_is s along_y (face q0) = omega arith
+stride_is s along_y (face q1) = omega arith
+stride_is s along_y (face q2) = omega arith
+stride_is s along_y (face q3) = omega arith
+stride_is s along_z lower = omega arith
+stride_is s along_z upper = omega arith
+stride_is s along_z (face q0) = omega arith
+stride_is s along_z (face q1) = omega arith
+stride_is s along_z (face q2) = omega arith
+stride_is s along_z (face q3) = omega arith
 
 -- a point of a kind, from the first cube of its line
 abbrev base : Sizes → Kind → ℕ → ℕ → ℕ
@@ -135,22 +135,29 @@ base s Centre y z = first_centre s y z
 
 number_from_law : (s : Sizes) (k : Kind) (x y z : ℕ) (d : Axis → ℕ) → number s k (λ c. xyz x y z c + d c) ≡ base s k y z + x + stride s k d
 unfolding stride
-number_from_law s Corner x y z d = shifted (grid s Corner) x y z d
-number_from_law s Centre x y z d = omega (arith, shifted (grid s Centre) x y z d)
+number_from_law s Corner x y z d = shifted_cell (grid s Corner) x y z d
+number_from_law s Centre x y z d = omega (arith, shifted_cell (grid s Centre) x y z d)
 
-module _ (s : Sizes) (n : ℕ) (a : Axis) (z y x : ℕ) where
+-- a pass of the code is one of the block's
+pub step_own : (s : Sizes) (a : Axis) → ((pass_of s a).step.n ≡ points s) × ((pass_of s a).step.axis < 3)
+unfolding pass_of step_by
+step_own s along_x = (refl, omega arith)
+step_own s along_y = (refl, omega arith)
+step_own s along_z = (refl, omega arith)
+
+module _ (s : Sizes) (a : Axis) (z y x : ℕ) where
   -- the six points as the code counts them
   abbrev pub cube_of : Cube
-  cube_of = moved_cube (pass_of s n a).step (first_corner s y z + x) (first_centre s y z + x)
+  cube_of = shifted (first_cube s (pass_of s a) y z) x
 
-  moved_point : (p : Six) → point_of cube_of p ≡ base s (six_kind p) y z + x + point_of (pass_of s n a).step p
-  unfolding moved_cube
-  moved_point lower = refl
-  moved_point upper = refl
-  moved_point (face q0) = refl
-  moved_point (face q1) = refl
-  moved_point (face q2) = refl
-  moved_point (face q3) = refl
+  moved_point : (p : Six) → six_point cube_of p ≡ base s (six_kind p) y z + x + six_point (pass_of s a).step p
+  unfolding shifted first_cube moved_cube
+  moved_point lower = omega arith
+  moved_point upper = omega arith
+  moved_point (face q0) = omega arith
+  moved_point (face q1) = omega arith
+  moved_point (face q2) = omega arith
+  moved_point (face q3) = omega arith
 
   abbrev pub tetrahedron : Quarter → Tetrahedron
   tetrahedron e = record { axis = a; cube = xyz x y z; edge = e }
@@ -161,7 +168,7 @@ module _ (s : Sizes) (n : ℕ) (a : Axis) (z y x : ℕ) where
   numbers_are e v =
       corner_of_law cube_of e v
       ∙ moved_point (among e v)
-      ∙ ap (λ (k : ℕ). base s (six_kind (among e v)) y z + x + k) (stride_is s n a (among e v))
+      ∙ ap (λ (k : ℕ). base s (six_kind (among e v)) y z + x + k) (stride_is s a (among e v))
       ∙ sym (number_from_law s (six_kind (among e v)) x y z (six_offset a (among e v)))
       ∙ (λ i. number s (sym (kind_of_law e v) i) (λ c. xyz x y z c + sym (offset_is a e v c) i))
 
@@ -170,39 +177,34 @@ module _ (s : Sizes) (n : ℕ) (a : Axis) (z y x : ℕ) where
     unfolding corner_number
     corner_in e v = rw (numbers_are e v) (number_lt s (kind v) (corner (tetrahedron e) v) (corner_inside s (tetrahedron e) h v))
 
-    pub cube_known : (pass_of s n a).step.axis < 3 → KnownCube (points s) cube_of
-    unfolding moved_cube
-    cube_known few =
+    points_are_in : (i : ℕ) → i < 6 → point_of cube_of i < points s
+    points_are_in zero l = corner_in q0 v2
+    points_are_in (suc zero) l = corner_in q0 v3
+    points_are_in (suc (suc zero)) l = corner_in q0 v0
+    points_are_in (suc (suc (suc zero))) l = corner_in q0 v1
+    points_are_in (suc (suc (suc (suc zero)))) l = corner_in q1 v1
+    points_are_in (suc (suc (suc (suc (suc zero))))) l = corner_in q3 v1
+    points_are_in (suc (suc (suc (suc (suc (suc i)))))) l = absurd (omega arith)
+
+    pub cube_known : Sized s → KnownCube (points s) cube_of
+    unfolding shifted first_cube moved_cube
+    cube_known k =
         record {
-          axis_in = few;
-          low_in = corner_in q0 v2;
-          high_in = corner_in q0 v3;
-          mm_in = corner_in q0 v0;
-          pm_in = corner_in q0 v1;
-          pp_in = corner_in q1 v1;
-          mp_in = corner_in q3 v1;
+          block = (step_own s a).0;
+          few = points_small s k;
+          axis_in = (step_own s a).1;
+          six = refl;
+          points_in = points_are_in;
         }
 
--- a pass of the code is one of the block's
-axis_few : (s : Sizes) (n : ℕ) (a : Axis) → (pass_of s n a).step.axis < 3
-unfolding pass_of step_by
-axis_few s n along_x = omega arith
-axis_few s n along_y = omega arith
-axis_few s n along_z = omega arith
-
-pub counts_are : (s : Sizes) (n : ℕ) (a : Axis)
-    → ((pass_of s n a).mx ≡ size s along_x - unit a along_x) × ((pass_of s n a).my ≡ size s along_y - unit a along_y)
-    × ((pass_of s n a).mz ≡ size s along_z - unit a along_z)
+-- how many cubes a pass has, and that they are the block's
+pub counts_are : (s : Sizes) (a : Axis)
+    → ((pass_of s a).cubes.nx ≡ size s along_x - unit a along_x) × ((pass_of s a).cubes.ny ≡ size s along_y - unit a along_y)
+    × ((pass_of s a).cubes.nz ≡ size s along_z - unit a along_z)
 unfolding pass_of unit
-counts_are s n along_x = omega arith
-counts_are s n along_y = omega arith
-counts_are s n along_z = omega arith
-
-pub sizes_are : (s : Sizes) (n : ℕ) (a : Axis) → ((pass_of s n a).sizes ≡ s) × ((pass_of s n a).n ≡ n)
-unfolding pass_of
-sizes_are s n along_x = (refl, refl)
-sizes_are s n along_y = (refl, refl)
-sizes_are s n along_z = (refl, refl)
+counts_are s along_x = omega arith
+counts_are s along_y = omega arith
+counts_are s along_z = omega arith
 
 pub valid_at : (s : Sizes) (a : Axis) (z y x : ℕ) → z < size s along_z - unit a along_z → y < size s along_y - unit a along_y
     → x < size s along_x - unit a along_x → (c : Axis) → xyz x y z c + unit a c < size s c
@@ -210,32 +212,19 @@ valid_at s a z y x hz hy hx along_x = omega arith
 valid_at s a z y x hz hy hx along_y = omega arith
 valid_at s a z y x hz hy hx along_z = omega arith
 
-pub pass_in : (s : Sizes) (a : Axis) → Sized s → InPass (pass_of s (points s) a)
-pass_in s a h =
-    record {
-      sized = rw is.0 h;
-      all = rw is.1 (points_small s h);
-      y_few = omega (arith, few);
-      z_few = omega (arith, few);
-      known = run;
-    }
+pub pass_in : (s : Sizes) (a : Axis) → Sized s → InPass s (pass_of s a)
+pass_in s a h = record { y_few = omega (arith, few); z_few = omega (arith, few); known = run }
   where
-    is : ((pass_of s (points s) a).sizes ≡ s) × ((pass_of s (points s) a).n ≡ points s)
-    is = sizes_are s (points s) a
+    few : ((pass_of s a).cubes.nx ≤ largest) × ((pass_of s a).cubes.ny ≤ largest) × ((pass_of s a).cubes.nz ≤ largest)
+    few = omega (arith, counts_are s a)
 
-    few : ((pass_of s (points s) a).mx ≤ largest) × ((pass_of s (points s) a).my ≤ largest) × ((pass_of s (points s) a).mz ≤ largest)
-    few = omega (arith, counts_are s (points s) a)
-
-    run : (z y : ℕ) → z < (pass_of s (points s) a).mz → y < (pass_of s (points s) a).my
-        → KnownRun (pass_of s (points s) a).n (pass_of s (points s) a).step (first_corner (pass_of s (points s) a).sizes y z)
-        (first_centre (pass_of s (points s) a).sizes y z) (pass_of s (points s) a).mx
+    run : (z y : ℕ) → z < (pass_of s a).cubes.nz → y < (pass_of s a).cubes.ny
+        → KnownRun (points s) (first_cube s (pass_of s a) y z) (pass_of s a).cubes.nx
     run z y hz hy =
-        rw (is.0, is.1)
-        (record {
+        record {
           few = few.0;
           known = λ x hx.
-              cube_known s (points s) a z y x
-              (valid_at s a z y x (omega (arith, counts_are s (points s) a)) (omega (arith, counts_are s (points s) a))
-              (omega (arith, counts_are s (points s) a)))
-              (axis_few s (points s) a);
-        })
+              cube_known s a z y x
+              (valid_at s a z y x (omega (arith, counts_are s a)) (omega (arith, counts_are s a)) (omega (arith, counts_are s a)))
+              h;
+        }

@@ -1,3 +1,4 @@
+pub mod Moving
 pub mod Cubes
 pub mod Passes
 pub mod Mesh

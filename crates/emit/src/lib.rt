@@ -1,44 +1,40 @@
 // The rows of a block, counted and written: the walk over all its lattice tetrahedra.
 #![tactic(auto)]
 
+ghost use Rattle.std.specs.Prelude.{◌≡◌, length};
+ghost use Rattle.lattice.specs.Counts.{points};
+
 pub mod bare;
 pub mod cubes;
+pub mod labels;
 pub mod passes;
 
+use labelling::scan::Scan;
 use lattice::Sizes;
 
-// The six points that the tetrahedra between a cube and the next one along an axis have: the lower
-// and the higher centre, and the shared face's corners in their turn, (-,-), (+,-), (+,+), (-,+).
+// What rows are told from: a scan, and a state byte for each of its points.
+#[derive(Clone, Copy)]
+pub struct Moved<'a> {
+    pub scan: Scan<'a>,
+    pub state: &'a [u8],
+    ghost coded: { length state.now ≡ points scan.lattice.sizes },
+}
+
+// The six points that the tetrahedra between a cube and the next one along an axis have, in a block of n
+// points: the lower and the higher centre, and the shared face's corners in their turn, (-,-), (+,-),
+// (+,+), (-,+). (That they are points of the block stands in contracts, as `KnownCube`, for the reason that
+// `rows::Tetra` gives.)
 #[derive(Clone, Copy)]
 pub struct Cube {
+    pub n: usize,
     pub axis: usize,
-    pub low: usize,
-    pub high: usize,
-    pub mm: usize,
-    pub pm: usize,
-    pub pp: usize,
-    pub mp: usize,
+    pub points: [usize; 6],
 }
 
-// The weights of their labels.
-#[derive(Clone, Copy)]
-pub struct CubeWeights {
-    pub low: usize,
-    pub high: usize,
-    pub mm: usize,
-    pub pm: usize,
-    pub pp: usize,
-    pub mp: usize,
-}
-
-// All cubes with a next one along an axis: the block's sizes and points, the six points counted
-// from a cube's lowest corner and its centre, and how many such cubes there are along x, y and z.
+// All cubes with a next one along an axis: the six points counted from a cube's lowest corner and its
+// centre, and how many such cubes there are along x, y and z.
 #[derive(Clone, Copy)]
 pub struct Pass {
-    pub sizes: Sizes,
-    pub n: usize,
     pub step: Cube,
-    pub mx: usize,
-    pub my: usize,
-    pub mz: usize,
+    pub cubes: Sizes,
 }

@@ -6,9 +6,9 @@ use mathlib.Core.Path.{◌≡◌, refl, sym, ◌∙◌, subst}
 use mathlib.Core.Bool.{not}
 use lib.Dec.{T, ltb→lt}
 use lib.ListN.{length}
+use Rattle.std.proofs.Common.{Some}
 use Rattle.basics.proofs.Test.{and_l, and_r}
 use Rattle.lattice.specs.declared.Sizes.{Sizes}
-use Rattle.lattice.specs.declared.Near.TheVariants.{At}
 use Rattle.lattice.specs.Counts.{points}
 use Rattle.lattice.specs.Direction.{Code}
 use Rattle.lattice.specs.Edge.{neighbour}
@@ -37,12 +37,12 @@ use Rattle.faces.proofs.Faces.{at_of, at_valid, at_inside, at_id}
 -- what an id in a row may be
 pub data RowId (s : Sizes) (label : ℕ → Label) (id : ℕ) : Type 0 where
   a_point : id < points s → (label id ≡ Minus → ⊥) → RowId s label id
-  an_edge : (p d q : ℕ) → p < points s → d < 7 → neighbour s p (d + 1) ≡ At q → T (opposed (label p) (label q))
+  an_edge : (p d q : ℕ) → p < points s → d < 7 → neighbour s p (d + 1) ≡ Some q → T (opposed (label p) (label q))
       → id ≡ cut_id s p d → RowId s label id
 
 -- the edge between two corners of a tetrahedron exists
 edge_near : (s : Sizes) (t : Tetrahedron) → Valid s t → (u v : Vertex) → rank u < rank v
-    → neighbour s (corner_number s t (start t u v)) (way t u v + 1) ≡ At (corner_number s t (finish t u v))
+    → neighbour s (corner_number s t (start t u v)) (way t u v + 1) ≡ Some (corner_number s t (finish t u v))
 unfolding corner_number
 edge_near s t h u v low =
     let p = start t u v in

@@ -15,13 +15,11 @@ use Rattle.basics.proofs.Test.{lt_or}
 use Rattle.lattice.specs.declared.Sizes.{Sizes}
 use Rattle.filling.specs.declared.Filled.{Filled}
 use Rattle.bounds.proofs.Amount.{long_enough_always, tetrahedra_within}
-use Rattle.blockfile.specs.declared.Read.{Read}
-use Rattle.blockfile.specs.Format.{read_sizes, read_whole}
+use Rattle.blockfile.specs.Format.{Read, read_sizes, read_whole}
 use Rattle.blockfile.specs.inner.Needs.{bench_longest}
 use Rattle.blockfile.proofs.Checked.{Answers, fine, by_size, by_file, by_limit, whole_answers, whole_readable}
 use Rattle.blockfile.proofs.Longest.{limited, bench_most, first_bytes}
-use Rattle.fill_file.specs.declared.Summary.{Summary}
-use Rattle.fill_file.specs.program.Summary.{bench_limit, bench_rows, refusal, counted, fill_read, summary}
+use Rattle.fill_file.specs.program.Summary.{Summary, bench_limit, bench_rows, refusal, counted, fill_read, summary}
 use Rattle.fill_file.specs.program.Printed.{output}
 
 -- one byte more than the longest file

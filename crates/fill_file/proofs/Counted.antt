@@ -17,8 +17,7 @@ use Rattle.filling.specs.declared.Filled.{Filled}
 use Rattle.stuffing.specs.inner.Fills.{Fills}
 use Rattle.yakuemi.specs.declared.measures.Measures.{Measures}
 use Rattle.yakuemi.specs.Measures.{measure}
-use Rattle.fill_file.specs.declared.Summary.{Summary}
-use Rattle.fill_file.specs.program.Summary.{refusal, counted, Outcome, fill_read}
+use Rattle.fill_file.specs.program.Summary.{Summary, refusal, counted, Outcome, fill_read}
 
 -- N, as measured
 pub measured_points : (s : Sizes) {m : Measures} → Sized s → m ≡ measure s → m.points ≡ points s

@@ -7,7 +7,7 @@ use mathlib.Core.Path.{◌≡◌, ap, ◌∙◌}
 use mathlib.Core.List.{List, [], ◌∷◌, ◌++◌, append_assoc}
 use borrow.Author.Tests.{eq-eqb, ne_eqb}
 use Rattle.text.specs.Text.{newline, ascii, decimal, line}
-use Rattle.fill_file.specs.declared.Summary.{Summary}
+use Rattle.fill_file.specs.program.Summary.{Summary}
 use Rattle.fill_file.specs.program.Printed.{count_lines, printed}
 
 pub put_both : (first word digits : List ℕ) {now all : List ℕ} → now ≡ first ++ word → all ≡ now ++ digits

@@ -1,57 +1,51 @@
-// What the bench program prints for an answer, as bytes at the start of a lent table.
-ghost use Rattle.std.specs.Prelude.{◌≡◌, [], ◌∷◌, ◌++◌, ◌+◌, ◌≤◌, length, take};
-ghost use Rattle.text.specs.inner.Counts.{IsPrefixLen};
-ghost use Rattle.text.specs.Text.{newline, ascii, decimal, line};
-ghost use Rattle.fill_file.specs.program.Printed.{count_lines, printed};
+// What the bench program prints for an answer, as bytes.
+ghost use Rattle.std.specs.Prelude.{◌≡◌, [], ◌∷◌, ◌++◌, ◌+◌, ◌≤◌, length};
+ghost use Rattle.text.specs.Text.{newline, decimal};
+ghost use Rattle.fill_file.specs.inner.Answer.{answer_of};
+ghost use Rattle.fill_file.specs.program.Printed.{printed};
 
-use crate::Summary;
+use crate::answers::{Counts, Refused};
+use text::Text;
 
-const SPACE: u8 = 32;
-
-const NEWLINE: u8 = 10;
-
-// A word and a number, a line after the first `at` bytes. A number has at most twenty digits.
-fn put_count(out: &mut [u8], at: usize, word: &[u8], n: u64) -> usize
-    requires { at + (length word.now + 21) ≤ length out.old }
-    ensures out_after { take result out.new
-        ≡ take at out.old ++ (word.now ++ (decimal n ++ (newline ∷ []))) }
-    ensures upper_bound { result ≤ at + (length word.now + 21) }
+// Writes a word and a number, a line. A number has at most twenty digits.
+fn push_count(text: &mut Text<113>, word: &[u8], n: u64)
+    requires { length text.old + (length word.now + 21) ≤ 113 }
+    ensures pushed { text.new ≡ text.old ++ (word.now ++ (decimal n ++ (newline ∷ []))) }
+    ensures upper_bound { length text.new ≤ length text.old + (length word.now + 21) }
 {
-    let next = text::put(out, at, word);
-    text::put_field(out, next, n, NEWLINE)
+    text.push(word);
+    text.push_field(n, b'\n');
 }
 
 // The four lines of a block that was filled: words of 29 bytes in all, and four numbers.
-fn write_counts(s: Summary, out: &mut [u8]) -> usize
-    requires { 113 ≤ length out.old }
-    ensures out_after { take result out.new ≡ count_lines s }
-    ensures upper_bound { result ≤ 113 }
+fn counts(c: Counts) -> Text<113>
+    ensures { result ≡ printed (answer_of (Ok c)) }
 {
-    let a = put_count(out, 0, b"points ", s.points);
-    let b = put_count(out, a, b"lattice ", s.lattice);
-    let c = put_count(out, b, b"moved ", s.moved);
-    put_count(out, c, b"emitted ", s.emitted)
+    let mut text = Text::new();
+    push_count(&mut text, b"points ", c.points);
+    push_count(&mut text, b"lattice ", c.lattice);
+    push_count(&mut text, b"moved ", c.moved);
+    push_count(&mut text, b"emitted ", c.emitted);
+    text
 }
 
 // The line of a refusal.
-fn write_refusal(number: u64, place: u64, out: &mut [u8]) -> usize
-    requires { 113 ≤ length out.old }
-    ensures out_after { take result out.new ≡ line (ascii "refused" ∷ decimal number ∷ decimal place ∷ []) }
-    ensures upper_bound { result ≤ 113 }
+fn refusal(r: Refused) -> Text<113>
+    ensures { result ≡ printed (answer_of (Err r)) }
 {
-    let a = text::put(out, 0, b"refused ");
-    let b = text::put_field(out, a, number, SPACE);
-    text::put_field(out, b, place, NEWLINE)
+    let mut text = Text::new();
+    text.push(b"refused ");
+    text.push_field(u64::from(r.number), b' ');
+    text.push_field(r.place, b'\n');
+    text
 }
 
-// All that is printed for an answer: answers how long it is.
-pub fn write_answer(s: Summary, out: &mut [u8]) -> usize
-    requires { 113 ≤ length out.old }
-    ensures out_after { take result out.new ≡ printed s }
-    ensures prefix_len { IsPrefixLen result out.new }
+// All that is printed for an answer.
+pub fn answer(outcome: Result<Counts, Refused>) -> Text<113>
+    ensures { result ≡ printed (answer_of outcome) }
 {
-    if s.number != 0 {
-        return write_refusal(s.number as u64, s.place, out);
+    match outcome {
+        Ok(c) => counts(c),
+        Err(r) => refusal(r),
     }
-    write_counts(s, out)
 }

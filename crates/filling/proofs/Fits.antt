@@ -6,8 +6,8 @@ use mathlib.Core.Logic.{inl, inr}
 use lib.ListN.{get_or}
 use lib.Dec.{T}
 use borrow.Author.Tests.{eq-eqb}
+use Rattle.std.proofs.Common.{Some}
 use Rattle.basics.proofs.Test.{&&-i, T_true, false_F, lt_or}
-use Rattle.lattice.specs.declared.Near.TheVariants.{At}
 use Rattle.lattice.specs.Counts.{points}
 use Rattle.lattice.specs.Direction.{as_start}
 use Rattle.lattice.specs.Edge.{neighbour, byte_at}
@@ -21,7 +21,7 @@ use Rattle.filling.specs.Check.{rim_fault, crosses_to, cut_fault, Accepted}
 -- no rim point is plus; an edge between a plus and a minus point has a byte
 pub record Fits (m : Reading) : Type 0 where
   pub no_plus : (p : ℕ) → p < points m.sizes → T (rim m.sizes p) → T (is_plus (m.label p)) → ⊥
-  pub cut : (p d q : ℕ) → p < points m.sizes → d < 7 → neighbour m.sizes p (as_start d) ≡ At q
+  pub cut : (p d q : ℕ) → p < points m.sizes → d < 7 → neighbour m.sizes p (as_start d) ≡ Some q
       → T (opposed (m.label p) (m.label q)) → 0 < get_or m.cuts (byte_at p d) 0
 
 -- the tests of the rim and of the cut bytes read the labels that moving reads
@@ -36,7 +36,7 @@ accepted_fits band b h =
     label : ℕ → Label
     label = labels band b.samples
 
-    some_byte : (p d q : ℕ) → p < points b.sizes → d < 7 → neighbour b.sizes p (as_start d) ≡ At q
+    some_byte : (p d q : ℕ) → p < points b.sizes → d < 7 → neighbour b.sizes p (as_start d) ≡ Some q
         → T (opposed (label p) (label q)) → 0 < get_or b.cuts (byte_at p d) 0
     some_byte p d q l u to t =
         elim (lt_or 0 (get_or b.cuts (byte_at p d) 0)) [

@@ -9,11 +9,9 @@ use lib.IntN.{ℤ, nat_abs}
 use lib.ListN.{get_or}
 use lib.Dec.{leb, ltb}
 use borrow.Author.Tests.{ltb-true, ltb-false, leb-false, eqb-true, not-false}
-use Rattle.std.specs.Prelude.{if◌then◌else◌}
+use Rattle.std.specs.Prelude.{if◌then◌else◌, Option, Some, None}
 use Rattle.basics.proofs.Test.{true_T}
 use Rattle.lattice.specs.declared.Sizes.{Sizes}
-use Rattle.lattice.specs.declared.Near.{Near}
-use Rattle.lattice.specs.declared.Near.TheVariants.{At, Nothing}
 use Rattle.lattice.specs.Axis.{Axis, along_x, along_y, along_z, xyz}
 use Rattle.lattice.specs.Counts.{size, sizes_fit, points}
 use Rattle.lattice.specs.Direction.{Code, as_start}
@@ -44,10 +42,10 @@ module _ (s : Sizes) (cuts state : List ℕ) (bytes : Bytes cuts) where
   unfolding point_place
   point_in p h a = go (is_move (get_or state p 0)) refl
     where
-      moved : (n : Near) → neighbour s p (get_or state p 0) ≡ n → Code (get_or state p 0)
+      moved : (n : Option ℕ) → neighbour s p (get_or state p 0) ≡ n → Code (get_or state p 0)
           → Steps (size s a) (moved_place s cuts p (get_or state p 0) n a)
-      moved Nothing e k = unfold moved_place in rest_in s p h a
-      moved (At q) e k = moved_in s cuts p (get_or state p 0) q h k e (omega (arith, bytes (edge_byte p (get_or state p 0) q))) a
+      moved None e k = unfold moved_place in rest_in s p h a
+      moved (Some q) e k = moved_in s cuts p (get_or state p 0) q h k e (omega (arith, bytes (edge_byte p (get_or state p 0) q))) a
 
       go : (b : Bool) → is_move (get_or state p 0) ≡ b
           → Steps (size s a) ((if b then moved_place s cuts p (get_or state p 0) (neighbour s p (get_or state p 0)) else rest s p) a)
@@ -59,10 +57,10 @@ module _ (s : Sizes) (cuts state : List ℕ) (bytes : Bytes cuts) where
   unfolding stands stands_to
   stands_in o h e a = go (neighbour s (o / 7) (as_start (o % 7))) refl e
     where
-      go : (n : Near) → neighbour s (o / 7) (as_start (o % 7)) ≡ n → stands_to s cuts state (o / 7) (o % 7) n ≡ true
+      go : (n : Option ℕ) → neighbour s (o / 7) (as_start (o % 7)) ≡ n → stands_to s cuts state (o / 7) (o % 7) n ≡ true
           → Steps (size s a) (cut_place s cuts (o / 7) (o % 7) a)
-      go Nothing x y = absurd (true_T false y)
-      go (At q) x y = cut_in s (o / 7) (omega arith) a cuts (o % 7) q (omega arith) x (omega (arith, bytes (byte_at (o / 7) (o % 7))))
+      go None x y = absurd (true_T false y)
+      go (Some q) x y = cut_in s (o / 7) (omega arith) a cuts (o % 7) q (omega arith) x (omega (arith, bytes (byte_at (o / 7) (o % 7))))
 
   -- the number of an id's refusal: by whether it is a point's, whether that is believable, past the last, of a cut that stands
   abbrev fault_by : Bool → Bool → Bool → Bool → ℕ

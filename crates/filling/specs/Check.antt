@@ -3,11 +3,9 @@
 --     rim_fault, first_rim         refusal 5
 --     crosses, cut_fault, first_cut   refusals 6 and 7
 --     Accepted                   a block and a band that pass
-use Rattle.std.specs.Prelude.{ℕ, ◌*◌, ◌/◌, ◌%◌, ◌≤◌, ◌<◌, ◌≡◌, Bool, false, not, ◌&&◌, List, get_or, eqb, if◌then◌else◌}
+use Rattle.std.specs.Prelude.{ℕ, ◌*◌, ◌/◌, ◌%◌, ◌≤◌, ◌<◌, ◌≡◌, Bool, false, not, ◌&&◌, List, get_or, eqb, if◌then◌else◌, Option, Some, None}
 use Rattle.basics.specs.Lists.{lowest}
 use Rattle.lattice.specs.declared.Sizes.{Sizes}
-use Rattle.lattice.specs.declared.Near.{Near}
-use Rattle.lattice.specs.declared.Near.TheVariants.{At, Nothing}
 use Rattle.lattice.specs.Counts.{points}
 use Rattle.lattice.specs.Direction.{as_start}
 use Rattle.lattice.specs.Edge.{neighbour}
@@ -26,9 +24,9 @@ module _ (s : Sizes) (label : ℕ → Label) where
   first_rim = lowest rim_fault (points s)
 
   -- the edge from p to this neighbour crosses: "one end's sample is above zero and the other's below", and by F-9 neither is in the band
-  unfoldable pub crosses_to : ℕ → Near → Bool
-  crosses_to p Nothing = false
-  crosses_to p (At q) = opposed (label p) (label q)
+  unfoldable pub crosses_to : ℕ → Option ℕ → Bool
+  crosses_to p None = false
+  crosses_to p (Some q) = opposed (label p) (label q)
 
   -- so does the edge from p in direction d, if there is one
   abbrev pub crosses : ℕ → ℕ → Bool

@@ -1,9 +1,8 @@
 -- The customer's third demand, on document 01's rows: of all rows together each face belongs to exactly two rows, which wind it opposite
 -- ways, or to exactly one, and then its three corners lie on the skin; and each row's volume, with points moved, is above zero. (`T b` says
 -- that the test b is true.)
-use Rattle.std.specs.Prelude.{ℕ, ◌+◌, ◌*◌, ◌<◌, ◌≡◌, ◌⊎◌, List, map, length, get_or, pos, T, ◌<ℤ◌}
+use Rattle.std.specs.Prelude.{ℕ, ◌+◌, ◌*◌, ◌<◌, ◌≡◌, ◌⊎◌, List, map, length, get_or, pos, T, ◌<ℤ◌, Some}
 use Rattle.basics.specs.Lists.{below}
-use Rattle.lattice.specs.declared.Near.TheVariants.{At}
 use Rattle.lattice.specs.Counts.{points}
 use Rattle.lattice.specs.Direction.{as_start}
 use Rattle.lattice.specs.Edge.{neighbour, byte_at}
@@ -49,7 +48,7 @@ pub record Conforms (rows : List (Row ℕ)) (place : ℕ → Place) (Skin : ℕ 
 -- start, that is, whose sample's size is at most the band. F-3: "The face rule now counts an in-band point as lying on the skin"
 pub data OnSkin (m : Reading) (id : ℕ) : Type 0 where
   -- "A cut point is the cut of an edge": the edge from p in direction d exists, its byte is not zero, and this is its id
-  a_cut : (p d q : ℕ) → p < points m.sizes → d < 7 → neighbour m.sizes p (as_start d) ≡ At q
+  a_cut : (p d q : ℕ) → p < points m.sizes → d < 7 → neighbour m.sizes p (as_start d) ≡ Some q
       → (get_or m.cuts (byte_at p d) 0 ≡ 0 → ⊥) → id ≡ cut_id m.sizes p d → OnSkin m id
   -- "a moved point is one that the rules above move in this block, and is not read off the state table"
   a_moved_point : id < points m.sizes → T (is_move (get_or (state_of m) id 0)) → OnSkin m id

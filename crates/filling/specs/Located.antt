@@ -1,8 +1,6 @@
 -- Document 01, "Calls and refusals", and document 02's F-8: what the place call answers, for every input.
-use Rattle.std.specs.Prelude.{ℕ, ◌*◌, ◌-◌, ◌/◌, ◌%◌, Bool, true, false, not, ◌&&◌, List, nat_abs, length, get_or, ltb, leb, eqb, if◌then◌else◌}
+use Rattle.std.specs.Prelude.{ℕ, ◌*◌, ◌-◌, ◌/◌, ◌%◌, Bool, true, false, not, ◌&&◌, List, nat_abs, length, get_or, ltb, leb, eqb, if◌then◌else◌, Option, Some, None}
 use Rattle.lattice.specs.declared.Sizes.{Sizes}
-use Rattle.lattice.specs.declared.Near.{Near}
-use Rattle.lattice.specs.declared.Near.TheVariants.{At, Nothing}
 use Rattle.lattice.specs.Axis.{along_x, along_y, along_z}
 use Rattle.lattice.specs.Counts.{sizes_fit, points}
 use Rattle.lattice.specs.Direction.{as_start}
@@ -22,9 +20,9 @@ unplaced n = record { number = n; x = 0; y = 0; z = 0 }
 
 module _ (s : Sizes) (cuts state : List ℕ) where
   -- the edge by code c exists, and its byte is a cut that violates p
-  unfoldable pub reaches : ℕ → ℕ → Near → Bool
-  reaches p c Nothing = false
-  reaches p c (At q) = violates rule1 c (get_or cuts (edge_byte p c q) 0)
+  unfoldable pub reaches : ℕ → ℕ → Option ℕ → Bool
+  reaches p c None = false
+  reaches p c (Some q) = violates rule1 c (get_or cuts (edge_byte p c q) 0)
 
   -- "9: the state byte is above 14, or its edge does not exist, has byte 0 or does not violate the point"; F-8: "Code 15 is believable, so
   -- 9 begins above 15"
@@ -34,9 +32,9 @@ module _ (s : Sizes) (cuts state : List ℕ) where
       if no_move c then true else is_move c && reaches p c (neighbour s p c)
 
   -- "8: .. its edge does not exist, has byte 0, or has an end with a non-zero state byte"; F-8: "A cut with an end coded 15 is refused by 8"
-  unfoldable pub stands_to : ℕ → ℕ → Near → Bool
-  stands_to p d Nothing = false
-  stands_to p d (At q) =
+  unfoldable pub stands_to : ℕ → ℕ → Option ℕ → Bool
+  stands_to p d None = false
+  stands_to p d (Some q) =
       not (eqb (get_or cuts (byte_at p d) 0) 0)
       && (not (says_zero (get_or state p 0)) && not (says_zero (get_or state q 0)))
 

@@ -3,7 +3,7 @@
 
 // The answer of filling: a number of the papers, the rows written, the points moved, a place.
 #[repr(C)]
-#[derive(Clone, Copy)]
+#[derive(Clone, Copy, PartialEq, Eq)]
 pub struct Filled {
     pub number: u32,
     pub rows: u64,
@@ -13,7 +13,7 @@ pub struct Filled {
 
 // The answer of the place call.
 #[repr(C)]
-#[derive(Clone, Copy)]
+#[derive(Clone, Copy, PartialEq, Eq)]
 pub struct Placed {
     pub number: u32,
     pub x: u32,

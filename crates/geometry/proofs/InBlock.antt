@@ -15,10 +15,9 @@ use mathlib.Core.List.{List}
 use lib.IntN.{ℤ, pos, ◌+ℤ◌, ◌-ℤ◌, ◌*ℤ◌}
 use lib.ListN.{get_or}
 use borrow.Author.Tests.{leb-true, leb-false}
-use Rattle.std.specs.Prelude.{if◌then◌else◌}
+use Rattle.std.specs.Prelude.{if◌then◌else◌, Some}
 use Rattle.basics.proofs.Integer.{ring, nat, ◌⊕◌, ◌⊖◌, ◌⊗◌}
 use Rattle.lattice.specs.declared.Sizes.{Sizes}
-use Rattle.lattice.specs.declared.Near.TheVariants.{At}
 use Rattle.lattice.specs.Axis.{Axis}
 use Rattle.lattice.specs.Counts.{size, points}
 use Rattle.lattice.specs.Point.{doubled, kind_of, index_of}
@@ -69,7 +68,7 @@ module _ (s : Sizes) (p : ℕ) (h : p < points s) (a : Axis) where
   unfolding lattice_place
   rest_in = record { steps = 256 * at; is = refl; most = omega (arith, at_most) }
 
-  pub edge_in : (c q t : ℕ) → Code c → neighbour s p c ≡ At q → t ≤ 256
+  pub edge_in : (c q t : ℕ) → Code c → neighbour s p c ≡ Some q → t ≤ 256
       → Steps (size s a) (rest s p a +ℤ pos t *ℤ signed (step c a))
   unfolding lattice_place
   edge_in c q t g e l =
@@ -77,7 +76,7 @@ module _ (s : Sizes) (p : ℕ) (h : p < points s) (a : Axis) where
       between (size s a) at (doubled f.kind (f.index a)) (step c a).up (step c a).down t l (one_way c g a) (f.leads a) at_most
       (doubled_le s f.kind f.index f.inside a)
 
-  pub cut_in : (cuts : List ℕ) (d q : ℕ) → d < 7 → neighbour s p (as_start d) ≡ At q → get_or cuts (byte_at p d) 0 ≤ 256
+  pub cut_in : (cuts : List ℕ) (d q : ℕ) → d < 7 → neighbour s p (as_start d) ≡ Some q → get_or cuts (byte_at p d) 0 ≤ 256
       → Steps (size s a) (cut_place s cuts p d a)
   unfolding cut_place
   cut_in cuts d q g e l =
@@ -85,7 +84,7 @@ module _ (s : Sizes) (p : ℕ) (h : p < points s) (a : Axis) where
       rw (start_step d g a) at (edge_in (as_start d) q (get_or cuts (byte_at p d) 0) code e l)
 
 -- from the point's own side the edge starts at the point, or at its other end
-module _ (s : Sizes) (cuts : List ℕ) (p c q : ℕ) (h : p < points s) (g : Code c) (e : neighbour s p c ≡ At q)
+module _ (s : Sizes) (cuts : List ℕ) (p c q : ℕ) (h : p < points s) (g : Code c) (e : neighbour s p c ≡ Some q)
     (byte : get_or cuts (edge_byte p c q) 0 ≤ 256) where
   as_start_law : is_start c ≡ true → c ≡ as_start (direction_of c)
   unfolding is_start direction_of
@@ -95,7 +94,7 @@ module _ (s : Sizes) (cuts : List ℕ) (p c q : ℕ) (h : p < points s) (g : Cod
   unfolding is_start direction_of opposite
   as_end_law b = rw b (omega (arith, g.high, leb-false c 7 b))
 
-  pub moved_in : (a : Axis) → Steps (size s a) (moved_place s cuts p c (At q) a)
+  pub moved_in : (a : Axis) → Steps (size s a) (moved_place s cuts p c (Some q) a)
   unfolding moved_place edge_byte
   moved_in a = go (is_start c) refl
     where

@@ -1,9 +1,7 @@
 -- Document 01, "The block" and "Moving points": the places of points and of cuts, with points moved.
-use Rattle.std.specs.Prelude.{ℕ, ◌*◌, ◌-◌, ◌/◌, ◌%◌, List, get_or, ltb, ℤ, pos, ◌+ℤ◌, ◌-ℤ◌, ◌*ℤ◌, if◌then◌else◌}
+use Rattle.std.specs.Prelude.{ℕ, ◌*◌, ◌-◌, ◌/◌, ◌%◌, List, get_or, ltb, ℤ, pos, ◌+ℤ◌, ◌-ℤ◌, ◌*ℤ◌, if◌then◌else◌, Option, Some, None}
 use Rattle.lattice.specs.declared.Sizes.{Sizes}
 use Rattle.lattice.specs.declared.Kind.{Kind}
-use Rattle.lattice.specs.declared.Near.{Near}
-use Rattle.lattice.specs.declared.Near.TheVariants.{At, Nothing}
 use Rattle.lattice.specs.Axis.{Axis}
 use Rattle.lattice.specs.Counts.{points}
 use Rattle.lattice.specs.Point.{doubled, kind_of, index_of}
@@ -31,9 +29,9 @@ unfoldable pub cut_place : Sizes → List ℕ → ℕ → ℕ → Place
 cut_place s cuts p d a = rest s p a +ℤ pos (get_or cuts (byte_at p d) 0) *ℤ signed (direction d a)
 
 -- the place of the cut of the edge that leads from p by code c
-unfoldable pub moved_place : Sizes → List ℕ → ℕ → ℕ → Near → Place
-moved_place s cuts p c Nothing = rest s p
-moved_place s cuts p c (At q) = cut_place s cuts (if is_start c then p else q) (direction_of c)
+unfoldable pub moved_place : Sizes → List ℕ → ℕ → ℕ → Option ℕ → Place
+moved_place s cuts p c None = rest s p
+moved_place s cuts p c (Some q) = cut_place s cuts (if is_start c then p else q) (direction_of c)
 
 -- a point whose state byte is a move "moves to that cut's place"; any other stands where it was. F-8: "Its place is its own place"
 unfoldable pub point_place : Sizes → List ℕ → List ℕ → ℕ → Place

@@ -11,10 +11,9 @@ use mathlib.Core.Bool.{not, ◌&&◌}
 use lib.ListN.{length, get_or}
 use lib.Dec.{eqb}
 use borrow.Author.Tests.{eq-eqb, ne_eqb, lt-ltb, le-ltb}
+use Rattle.std.proofs.Common.{None, Option, Some}
 use Rattle.basics.proofs.Test.{lt_or}
 use Rattle.basics.proofs.Search.{count_same}
-use Rattle.lattice.specs.declared.Near.{Near}
-use Rattle.lattice.specs.declared.Near.TheVariants.{At, Nothing}
 use Rattle.lattice.specs.Counts.{points}
 use Rattle.lattice.specs.Direction.{as_start}
 use Rattle.lattice.specs.Edge.{neighbour, byte_at}
@@ -72,10 +71,10 @@ module _ (m : Reading) where
   unfolding stands stands_to
   same_stands o = go (neighbour m.sizes (o / 7) (as_start (o % 7)))
     where
-      go : (n : Near) → stands_to m.sizes m.cuts (state_before m) (o / 7) (o % 7) n
+      go : (n : Option ℕ) → stands_to m.sizes m.cuts (state_before m) (o / 7) (o % 7) n
           ≡ stands_to m.sizes m.cuts (state_of m) (o / 7) (o % 7) n
-      go Nothing = refl
-      go (At q) = λ i. not (eqb (get_or m.cuts (byte_at (o / 7) (o % 7)) 0) 0) && (not (same_mark (o / 7) i) && not (same_mark q i))
+      go None = refl
+      go (Some q) = λ i. not (eqb (get_or m.cuts (byte_at (o / 7) (o % 7)) 0) 0) && (not (same_mark (o / 7) i) && not (same_mark q i))
 
   same_cut : (id : ℕ) → points m.sizes ≤ id
       → locate m.sizes m.cuts (state_before m) id ≡ locate m.sizes m.cuts (state_of m) id

@@ -19,11 +19,10 @@ use mathlib.Core.List.{List}
 use lib.Dec.{ltb, leb, eqb}
 use lib.ListN.{length, get_or}
 use borrow.Author.Tests.{ne_eqb}
-use Rattle.std.specs.Prelude.{if◌then◌else◌}
+use Rattle.std.specs.Prelude.{if◌then◌else◌, Some}
 use Rattle.basics.specs.Lists.{count}
 use Rattle.basics.proofs.Test.{false_F, true_T}
 use Rattle.basics.proofs.Search.{count_same}
-use Rattle.lattice.specs.declared.Near.TheVariants.{At}
 use Rattle.lattice.specs.Counts.{sizes_fit, points}
 use Rattle.lattice.specs.Direction.{as_start}
 use Rattle.lattice.specs.Edge.{neighbour, byte_at}
@@ -75,7 +74,7 @@ fill_unmarked band b state rows =
     else written_unmarked state rows (reading_of band b)
 
 pub data OnSkinUnmarked (m : Reading) (id : ℕ) : Type 0 where
-  was_cut : (p d q : ℕ) → p < points m.sizes → d < 7 → neighbour m.sizes p (as_start d) ≡ At q
+  was_cut : (p d q : ℕ) → p < points m.sizes → d < 7 → neighbour m.sizes p (as_start d) ≡ Some q
       → (get_or m.cuts (byte_at p d) 0 ≡ 0 → ⊥) → id ≡ cut_id m.sizes p d → OnSkinUnmarked m id
   was_moved : id < points m.sizes → (get_or (state_unmarked m) id 0 ≡ 0 → ⊥) → OnSkinUnmarked m id
   was_zero : id < points m.sizes → m.label id ≡ Zero → OnSkinUnmarked m id

@@ -20,18 +20,14 @@ use lib.Dec.{eqb}
 use lib.ListN.{length, get_or, set, replicate, length-set, length-replicate, get_or-replicate, get_or-eq_default}
 use lib.Seq.{get_or-set_same, get_or-set_other}
 use borrow.Author.Tests.{eq-eqb, ne_eqb}
-use Rattle.std.specs.Prelude.{if◌then◌else◌}
+use Rattle.std.specs.Prelude.{if◌then◌else◌, Option, Some, None}
 use Rattle.basics.specs.Lists.{from, below}
 use Rattle.basics.proofs.Test.{lt_or}
-use Rattle.lattice.specs.declared.Near.{Near}
-use Rattle.lattice.specs.declared.Near.TheVariants.{At, Nothing}
 use Rattle.lattice.specs.Counts.{points}
 use Rattle.lattice.specs.Direction.{Code}
 use Rattle.lattice.specs.Edge.{neighbour}
 use Rattle.moving.specs.declared.Label.{Label}
 use Rattle.moving.specs.declared.Label.TheVariants.{Minus, Zero, Plus}
-use Rattle.moving.specs.declared.Violation.{Violation}
-use Rattle.moving.specs.declared.Violation.TheVariants.{No}
 use Rattle.moving.specs.Label.{is_zero}
 use Rattle.moving.specs.Violation.{violation}
 use Rattle.moving.specs.State.{is_move, skin_mark, says_zero}
@@ -59,9 +55,9 @@ use Rattle.moving.proofs.Moved.{
 }
 
 -- the nearest of the codes 1 to n, and a point's new byte
-unfoldable pub nearest_before : (ℕ → Violation) → ℕ → ℕ
+unfoldable pub nearest_before : (ℕ → Option ℕ) → ℕ → ℕ
 nearest_before by zero = 0
-nearest_before by (suc n) = let c = nearest_before by n in if nearer (by (suc n)) (if eqb c 0 then No else by c) then suc n else c
+nearest_before by (suc n) = let c = nearest_before by n in if nearer (by (suc n)) (if eqb c 0 then None else by c) then suc n else c
 
 unfoldable pub move_to_before : List ℕ → ℕ → ℕ → List ℕ
 move_to_before codes p c = if eqb c 0 then codes else set codes p c
@@ -74,12 +70,12 @@ code_before c l none some =
       | inr n ↦ rw (ne_eqb c 0 n, code_move c (record { low = omega arith; high = l })) refl
     ]
 
-nearest_before_law : (by : ℕ → Violation) (n : ℕ) → n ≤ 14 → nearest_before by n ≡ nearest_to by n
+nearest_before_law : (by : ℕ → Option ℕ) (n : ℕ) → n ≤ 14 → nearest_before by n ≡ nearest_to by n
 unfolding nearest_before nearest_to
 nearest_before_law by zero l = refl
 nearest_before_law by (suc n) l =
     let few : nearest_to by n ≤ 14 = omega (arith, nearest_le by n (omega arith)) in
-    rw (nearest_before_law by n (omega arith), code_before (nearest_to by n) few No (by (nearest_to by n))) refl
+    rw (nearest_before_law by n (omega arith), code_before (nearest_to by n) few None (by (nearest_to by n))) refl
 
 module _ (m : Reading) where
   -- "Points are taken once each, in ascending number"
@@ -113,9 +109,9 @@ module _ (m : Reading) where
   unfolding choice violation_along live
   choice_same s t h p = λ i. nearest (λ c. by c (neighbour m.sizes p c) i)
     where
-      by : (c : ℕ) (n : Near) → violation_along m s p c n ≡ violation_along m t p c n
-      by c Nothing = refl
-      by c (At q) = λ i. if not (is_zero (h p i)) && not (is_zero (h q i)) then violation m.rule c (cut_along m p c q) else No
+      by : (c : ℕ) (n : Option ℕ) → violation_along m s p c n ≡ violation_along m t p c n
+      by c None = refl
+      by c (Some q) = λ i. if not (is_zero (h p i)) && not (is_zero (h q i)) then violation m.rule c (cut_along m p c q) else None
 
   -- a table without marks and one with them
   pub record Alike (plain marked : List ℕ) : Type 0 where

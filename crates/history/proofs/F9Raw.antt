@@ -19,10 +19,8 @@ use lib.IntN.{ℤ, pos, nat_abs}
 use lib.ListN.{length, get_or}
 use lib.Dec.{T, ltb, eqb}
 use borrow.Author.Tests.{eq-eqb, ne_eqb, not-true}
-use Rattle.std.specs.Prelude.{if◌then◌else◌}
+use Rattle.std.specs.Prelude.{if◌then◌else◌, Option, Some, None}
 use Rattle.basics.proofs.Test.{&&-l, &&-r, &&-i, T_true, F-false, decide, lt_or}
-use Rattle.lattice.specs.declared.Near.{Near}
-use Rattle.lattice.specs.declared.Near.TheVariants.{At, Nothing}
 use Rattle.lattice.specs.Counts.{sizes_fit, points}
 use Rattle.lattice.specs.Direction.{as_start}
 use Rattle.lattice.specs.Edge.{neighbour}
@@ -86,7 +84,7 @@ module _ (band : ℕ) (b : Block) where
   -- a byte "on an edge with an in-band end"
   pub record EdgeInBand (o : ℕ) : Type 0 where
     pub far : ℕ
-    pub leads : neighbour b.sizes (o / 7) (as_start (o % 7)) ≡ At far
+    pub leads : neighbour b.sizes (o / 7) (as_start (o % 7)) ≡ Some far
     pub end : InBand (o / 7) ⊎ InBand far
 
   -- a rim point that is at fault by its label
@@ -132,11 +130,11 @@ module _ (band : ℕ) (b : Block) where
       p = o / 7
 
       -- what is asked of a neighbour
-      Told : Near → Type 0
+      Told : Option ℕ → Type 0
       Told n =
           (EdgeInBand o × T (crosses_to b.sizes (raw b) p n)) ⊎ (crosses_to b.sizes label p n ≡ crosses_to b.sizes (raw b) p n)
 
-      inside : (q : ℕ) → neighbour b.sizes p (as_start (o % 7)) ≡ At q → InBand p ⊎ InBand q → Told (At q)
+      inside : (q : ℕ) → neighbour b.sizes p (as_start (o % 7)) ≡ Some q → InBand p ⊎ InBand q → Told (Some q)
       inside q to i =
           let e : EdgeInBand o = record { far = q; leads = to; end = i } in
           let none = sym (ap (crosses_to b.sizes label p) to) ∙ uncrossed o e in
@@ -145,9 +143,9 @@ module _ (band : ℕ) (b : Block) where
             | inr t ↦ inr (none ∙ sym (not-true _ (T_true _ t)))
           ]
 
-      told : (n : Near) → neighbour b.sizes p (as_start (o % 7)) ≡ n → Told n
-      told Nothing to = inr refl
-      told (At q) to =
+      told : (n : Option ℕ) → neighbour b.sizes p (as_start (o % 7)) ≡ n → Told n
+      told None to = inr refl
+      told (Some q) to =
           elim (lt_or band (nat_abs (sample p))) [
             | inr l ↦ inside q to (inl l)
             | inl l ↦
@@ -157,11 +155,11 @@ module _ (band : ℕ) (b : Block) where
                 ]
           ]
 
-      go : (n : Near) → neighbour b.sizes p (as_start (o % 7)) ≡ n
+      go : (n : Option ℕ) → neighbour b.sizes p (as_start (o % 7)) ≡ n
           → (EdgeInBand o × T (crosses b.sizes (raw b) p (o % 7))) ⊎ (now o ≡ before b o)
       go n to =
           elim (told n to) [
-            | inl (e, t) ↦ inl (e, subst (λ (n : Near). T (crosses_to b.sizes (raw b) p n)) (sym to) t)
+            | inl (e, t) ↦ inl (e, subst (λ (n : Option ℕ). T (crosses_to b.sizes (raw b) p n)) (sym to) t)
             | inr same ↦ inr (ap (λ (c : Bool). if c then (if eqb (byte b o) 0 then 6 else 0) else (if eqb (byte b o) 0 then 0 else 7))
                 (ap (crosses_to b.sizes label p) to ∙ same ∙ sym (ap (crosses_to b.sizes (raw b) p) to)))
           ]

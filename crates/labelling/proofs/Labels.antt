@@ -7,7 +7,8 @@
 --     both_lack                         two samples that both lack a label are not opposed
 --     less_plus, .., not_less_minus     the order of two samples, and their labels
 --     mark_beneath, mark_above, mark_within   the state byte at the outset, by the ends of the band
-use Prim.Native.Nat.{ℕ, zero, suc, ◌^◌, ◌<◌, ◌≤◌}
+use Prim.Native.Nat.{ℕ, zero, suc, ◌*◌, ◌^◌, ◌<◌, ◌≤◌}
+use native.Mathlib.Nat.{mul-le-mul}
 use native.Mathlib.Omega.{arith}
 use mathlib.Core.Path.{◌≡◌, refl, sym, ap, subst, ◌∙◌}
 use mathlib.Core.Logic.{inl, inr}
@@ -229,3 +230,7 @@ module _ (band : ℕ) {low high : ℤ} (x : ℤ) (l : low ≡ pos 0 -ℤ pos ban
       let not_plus = sym (above band x) ∙ (rw h at f) in
       let not_minus = sym (beneath band x) ∙ (rw l at e) in
       mark_is (label_of band x) (ap not (sym not_minus) ∙ zero_other (label_of band x) not_plus)
+
+-- the square of the longest distance fits many times over
+pub square_small : (t : ℕ) → t ≤ 256 → t * t ≤ 65536
+square_small t h = mul-le-mul {n₂ = 256} {m₂ = 256} h h

@@ -1,31 +1,30 @@
 // What a state byte says of its point. Only `is_unmoved` (emit) looks at bytes without asking here: it
 // adds up six.
-ghost use Rattle.std.specs.Prelude.{◌≡◌, ℕ, pos, ◌-ℤ◌};
+ghost use Rattle.std.specs.Prelude.{◌≡◌, ℕ, pos, ◌-ℤ◌, is_some, IfSome};
 ghost use Rattle.moving.specs.Label.{label_of};
 ghost use Rattle.moving.specs.State.{is_move, no_move, says_zero};
 ghost use Rattle.moving.specs.Moving.{mark_of};
 
+use lattice::EdgeCode;
+
 // F-8: the mark of a point that lies on the skin unmoved.
 const SKIN_MARK: usize = 15;
 
-// This code is a move.
-pub fn is_move(code: usize) -> bool
-    ensures { result ≡ is_move code }
+// The move by which a point moved, if its byte says one.
+#[tactic(auto, unfolding(moving::specs::State::is_move))]
+pub fn move_of(code: usize) -> Option<EdgeCode>
+    ensures moved { is_some result ≡ is_move code }
+    ensures same { IfSome result (λ c. c.code ≡ code) }
 {
-    if code == 0 {
-        return false;
-    }
-    code <= 14
+    EdgeCode::new(code)
 }
 
 // It is no move: 0, or the mark.
+#[tactic(auto, unfolding(moving::specs::State::no_move))]
 pub fn no_move(code: usize) -> bool
     ensures { result ≡ no_move code }
 {
-    if code == 0 {
-        return true;
-    }
-    code == SKIN_MARK
+    code == 0 || code == SKIN_MARK
 }
 
 // The point's label is zero.

@@ -7,6 +7,7 @@ ghost use Rattle.labelling.specs.inner.Labels.{has_label};
 const BAND_MOST: u32 = 32767;
 
 // A band that is taken.
+#[tactic(auto, unfolding(moving::specs::Label::band_fits))]
 pub fn band_fits(band: u32) -> bool
     ensures { result ≡ band_fits band }
 {

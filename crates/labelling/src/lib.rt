@@ -4,4 +4,5 @@
 
 pub mod codes;
 pub mod label;
+pub mod scan;
 pub mod violation;

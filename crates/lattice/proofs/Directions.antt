@@ -4,19 +4,18 @@
 use Prim.Native.Nat.{ℕ}
 use mathlib.Core.Path.{◌≡◌, refl}
 use mathlib.Core.List.{List, [], ◌∷◌, ◌++◌}
+use Rattle.std.proofs.Common.{None, Option, Some}
 use Rattle.basics.specs.Lists.{gather, from}
 use Rattle.lattice.specs.declared.Sizes.{Sizes}
-use Rattle.lattice.specs.declared.Near.{Near}
-use Rattle.lattice.specs.declared.Near.TheVariants.{At, Nothing}
 use Rattle.lattice.specs.Counts.{cells}
 use Rattle.lattice.specs.Point.{linear, cell, kind_of}
 use Rattle.lattice.specs.Direction.{directions, direction, long, is_start, direction_of, step}
 use Rattle.lattice.specs.Edge.{stays_in, far_kind, far_index, near, neighbour, edge_byte}
 
 -- the byte of the edge that leads from p by a code, or none
-unfoldable pub bytes_to : ℕ → ℕ → Near → List ℕ
-bytes_to p c Nothing = []
-bytes_to p c (At q) = edge_byte p c q ∷ []
+unfoldable pub bytes_to : ℕ → ℕ → Option ℕ → List ℕ
+bytes_to p c None = []
+bytes_to p c (Some q) = edge_byte p c q ∷ []
 
 unfoldable pub bytes_of : Sizes → ℕ → List ℕ
 bytes_of s p = gather (λ c. bytes_to p c (neighbour s p c)) (from 1 14)

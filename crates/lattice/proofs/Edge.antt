@@ -6,12 +6,11 @@ use mathlib.Core.Path.{◌≡◌, refl, sym, ap, subst, ◌∙◌}
 use mathlib.Core.Logic.{inl, inr}
 use mathlib.Core.Bool.{Bool, true, false, not}
 use lib.Dec.{T, leb, leb→le, le→leb}
-use Rattle.std.specs.Prelude.{if◌then◌else◌}
+use Rattle.std.specs.Prelude.{if◌then◌else◌, Some, None}
 use Rattle.basics.proofs.Test.{&&-l, &&-r, &&-i, T_true, true_T}
 use Rattle.lattice.specs.declared.Sizes.{Sizes}
 use Rattle.lattice.specs.declared.Kind.{Kind}
 use Rattle.lattice.specs.declared.Kind.TheVariants.{Corner, Centre}
-use Rattle.lattice.specs.declared.Near.TheVariants.{At, Nothing}
 use Rattle.lattice.specs.Axis.{Axis, along_x}
 use Rattle.lattice.specs.Counts.{size, grid, points}
 use Rattle.lattice.specs.Point.{doubled, other, Inside, number, kind_of, index_of}
@@ -85,23 +84,23 @@ module _ (s : Sizes) (k : Kind) (i : Axis → ℕ) (c : ℕ) where
   abbrev far_number : ℕ
   far_number = number s (far_kind k c) (far_index k i c)
 
-  pub near_yes : exists s k i c ≡ true → near s k i c ≡ At (number s (far_kind k c) (far_index k i c))
+  pub near_yes : exists s k i c ≡ true → near s k i c ≡ Some (number s (far_kind k c) (far_index k i c))
   unfolding near
   near_yes e = simp e
 
-  pub near_no : exists s k i c ≡ false → near s k i c ≡ Nothing
+  pub near_no : exists s k i c ≡ false → near s k i c ≡ None
   unfolding near
   near_no e = simp e
 
-  near_exists : (q : ℕ) → near s k i c ≡ At q → T (exists s k i c) × (q ≡ far_number)
+  near_exists : (q : ℕ) → near s k i c ≡ Some q → T (exists s k i c) × (q ≡ far_number)
   unfolding near
   near_exists q e = go (exists s k i c) refl e
     where
-      go : (b : Bool) → exists s k i c ≡ b → (if b then At far_number else Nothing) ≡ At q → T (exists s k i c) × (q ≡ far_number)
+      go : (b : Bool) → exists s k i c ≡ b → (if b then Some far_number else None) ≡ Some q → T (exists s k i c) × (q ≡ far_number)
       go true d x = (true_T _ d, cc)
       go false d x = let z : ◌≡◌ {A = ℕ} 0 1 = cc in absurd (omega arith)
 
-  pub far_end : (q : ℕ) → Inside s k i → Code c → near s k i c ≡ At q → FarEnd s k i c q
+  pub far_end : (q : ℕ) → Inside s k i → Code c → near s k i c ≡ Some q → FarEnd s k i c q
   far_end q h g e =
       let x = near_exists q e in
       let there = stays x.0 in
@@ -115,8 +114,8 @@ module _ (s : Sizes) (k : Kind) (i : Axis → ℕ) (c : ℕ) where
       }
 
   pub leads_near : (l : Kind) (j : Axis → ℕ) → Inside s k i → Inside s l j → Code c → Leads k i c l j
-      → near s k i c ≡ At (number s l j)
-  leads_near l j h g d x = near_yes (T_true _ (exists_i room)) ∙ (λ t. At (number s ((same along_x).0 t) (λ a. (same a).1 t)))
+      → near s k i c ≡ Some (number s l j)
+  leads_near l j h g d x = near_yes (T_true _ (exists_i room)) ∙ (λ t. Some (number s ((same along_x).0 t) (λ a. (same a).1 t)))
     where
       low : (a : Axis) → (step c a).down ≤ doubled k (i a)
       low a = elim (one_way c d a) [ inl u ↦ omega (arith, x a) | inr u ↦ omega arith ]
@@ -131,7 +130,7 @@ module _ (s : Sizes) (k : Kind) (i : Axis → ℕ) (c : ℕ) where
 pub near_number : (s : Sizes) (k : Kind) (i : Axis → ℕ) → Inside s k i → (c : ℕ) → neighbour s (number s k i) c ≡ near s k i c
 near_number s k i h c = λ t. near s (kind_number s k i h t) (λ a. index_number s k i h a t) c
 
-module _ (s : Sizes) (p c q : ℕ) (h : p < points s) (g : Code c) (e : neighbour s p c ≡ At q) where
+module _ (s : Sizes) (p c q : ℕ) (h : p < points s) (g : Code c) (e : neighbour s p c ≡ Some q) where
   pub far : FarEnd s (kind_of s p) (index_of s p) c q
   far = far_end s (kind_of s p) (index_of s p) c q (inside_of s p h) g e
 
@@ -139,11 +138,11 @@ module _ (s : Sizes) (p c q : ℕ) (h : p < points s) (g : Code c) (e : neighbou
   neighbour_lt = let f = far in subst (λ (n : ℕ). n < points s) (sym f.is) (number_lt s f.kind f.index f.inside)
 
   -- code c from p leads to q, so the opposite code from q leads to p
-  pub neighbour_back : neighbour s q (opposite c) ≡ At p
+  pub neighbour_back : neighbour s q (opposite c) ≡ Some p
   neighbour_back =
       ap (λ (n : ℕ). neighbour s n (opposite c)) far.is ∙ near_number s far.kind far.index far.inside (opposite c)
       ∙ leads_near s far.kind far.index (opposite c) (kind_of s p) (index_of s p) far.inside (inside_of s p h) (opposite_code c g) back
-      ∙ ap At (number_of s p h)
+      ∙ ap Some (number_of s p h)
     where
       back : Leads far.kind far.index (opposite c) (kind_of s p) (index_of s p)
       back a = omega (arith, far.leads a, opposite_up c g a, opposite_down c g a)
@@ -159,7 +158,7 @@ byte_back p c q h = go (is_start c) (opposite_start c h)
     go false e = simp (e, opposite_direction c h)
 
 -- one code leads from p to q: so an edge has one start, and one direction there
-pub one_code : (s : Sizes) (p c e q : ℕ) → p < points s → Code c → Code e → neighbour s p c ≡ At q → neighbour s p e ≡ At q → c ≡ e
+pub one_code : (s : Sizes) (p c e q : ℕ) → p < points s → Code c → Code e → neighbour s p c ≡ Some q → neighbour s p e ≡ Some q → c ≡ e
 one_code s p c e q h g d x y = codes_apart c e g d way
   where
     f : FarEnd s (kind_of s p) (index_of s p) c q

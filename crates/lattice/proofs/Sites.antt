@@ -5,7 +5,7 @@ use native.Mathlib.Omega.{arith}
 use mathlib.Core.Path.{◌≡◌, refl, ap}
 use mathlib.Core.Logic.{◌⊎◌, inl, inr}
 use mathlib.Core.Bool.{Bool, true, false}
-use borrow.Author.Tests.{le-leb, lt-leb, lt-ltb, le-ltb}
+use borrow.Author.Tests.{lt-ltb, le-ltb}
 use Rattle.basics.proofs.Test.{true_T, All₃}
 use Rattle.lattice.specs.declared.Sizes.{Sizes}
 use Rattle.lattice.specs.declared.Kind.{Kind}
@@ -55,13 +55,13 @@ pub site_high : (s : Sizes) (p first : ℕ) → first ≡ corners s → first �
 site_high s p first e h = rw (kind_high s p (rw e at h), e) refl
 
 -- a code's step is its direction's, turned round at the end
-pub shift_start : (c : ℕ) → c ≤ 7 → shift_of c ≡ shift_along ((c - 1) % 7)
-unfolding shift_of shift_along step is_start direction_of
-shift_start c h = simp (le-leb _ _ h)
+pub shift_start : (c : ℕ) → is_start c ≡ true → shift_of c ≡ shift_along (direction_of c)
+unfolding shift_of shift_along step
+shift_start c h = simp h
 
-pub shift_end : (c : ℕ) → 7 < c → shift_of c ≡ turned_shift (shift_along ((c - 1) % 7))
-unfolding shift_of shift_along step is_start direction_of
-shift_end c h = simp (lt-leb _ _ h)
+pub shift_end : (c : ℕ) → is_start c ≡ false → shift_of c ≡ turned_shift (shift_along (direction_of c))
+unfolding shift_of shift_along step
+shift_end c h = simp h
 
 -- by cases on a direction
 pub by_direction : (P : ℕ → Type 0) → P 0 → P 1 → P 2 → P 3 → P 4 → P 5 → P 6 → (d : ℕ) → d < 7 → P d
@@ -165,12 +165,12 @@ unfolding stays_in shift_of
 edge_tests s q c odd t e f =
     record { is = rw (e, f, doubled_odd q.kind q.x, doubled_odd q.kind q.y, doubled_odd q.kind q.z) refl }
 
-pub far_long : (k : Kind) (c : ℕ) → (c - 1) % 7 < 3 → far_kind k c ≡ k
-unfolding far_kind long direction_of
+pub far_long : (k : Kind) (c : ℕ) → direction_of c < 3 → far_kind k c ≡ k
+unfolding far_kind long
 far_long k c h = simp (lt-ltb _ _ h)
 
-pub far_short : (k : Kind) (c : ℕ) → 3 ≤ (c - 1) % 7 → far_kind k c ≡ other k
-unfolding far_kind long direction_of
+pub far_short : (k : Kind) (c : ℕ) → 3 ≤ direction_of c → far_kind k c ≡ other k
+unfolding far_kind long
 far_short k c h = simp (le-ltb _ _ h)
 
 -- a grid, without asking for the kind
@@ -231,12 +231,12 @@ module _ {s : Sizes} {q : Site} {c odd : ℕ} {t : Shift} (g : Going s q c odd t
           (λ a. far_index_law q.kind (index q) c g.code a (stays s q.kind (index q) c (true_T _ g.there) a).0))
 
   -- a long edge stays in the point's own grid, a short one leads to the other
-  pub reaches_long : (c - 1) % 7 < 3 → Reaches s q c (s.nx + 1 - odd) (s.ny + 1 - odd) q.own odd t
+  pub reaches_long : direction_of c < 3 → Reaches s q c (s.nx + 1 - odd) (s.ny + 1 - odd) q.own odd t
   reaches_long l =
       reaches q.kind (far_long q.kind c l) (own_grid q.kind _ _ g.odd_is) (own_grid q.kind _ _ g.odd_is)
       g.sited.own_is (numbers_small s q g.sized g.sited).0
 
-  pub reaches_short : 3 ≤ (c - 1) % 7 → Reaches s q c (s.nx + odd) (s.ny + odd) q.across odd t
+  pub reaches_short : 3 ≤ direction_of c → Reaches s q c (s.nx + odd) (s.ny + odd) q.across odd t
   reaches_short l =
       reaches (other q.kind) (far_short q.kind c l)
       (other_grid q.kind _ _ g.odd_is) (other_grid q.kind _ _ g.odd_is)

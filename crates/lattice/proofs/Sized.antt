@@ -1,10 +1,11 @@
 -- Sizes that pass the test are sizes 1 to 64, and the other way round. Assumes nothing.
 use Prim.Native.Nat.{◌≤◌}
-use mathlib.Core.Path.{◌≡◌}
+use mathlib.Core.Path.{◌≡◌, subst}
 use mathlib.Core.Bool.{true, ◌&&◌}
 use lib.Dec.{T, leb, leb→le, le→leb}
 use Rattle.basics.proofs.Test.{&&-l, &&-r, &&-i, T_true, true_T}
 use Rattle.lattice.specs.declared.Sizes.{Sizes}
+use Rattle.lattice.specs.declared.Lattice.{Lattice}
 use Rattle.lattice.specs.Axis.{Axis, along_x, along_y, along_z}
 use Rattle.lattice.specs.Counts.{size, largest, sizes_fit, Sized}
 use Rattle.lattice.proofs.Axes.{everywhere_use, everywhere_i}
@@ -46,3 +47,7 @@ module _ (s : Sizes) (z : Sized s) where
   sized_fits =
       T_true _ (everywhere_i (λ a. leb 1 (size s a) && leb (size s a) largest)
       (λ a. &&-i (leb 1 (size s a)) _ (le→leb 1 _ (size_low a)) (le→leb _ largest (size_high a))))
+
+-- the sizes of a lattice are taken
+pub lattice_fits : (l : Lattice) {s : Sizes} → l.sizes ≡ s → sizes_fit s ≡ true
+lattice_fits l e = subst (λ (s : Sizes). sizes_fit s ≡ true) e (sized_fits l.sizes l.sized)

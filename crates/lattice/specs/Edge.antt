@@ -1,9 +1,7 @@
 -- Document 01, "The block": edges, and the byte of the cut table that an edge has.
-use Rattle.std.specs.Prelude.{ℕ, ◌+◌, ◌*◌, ◌-◌, ◌/◌, Bool, ◌&&◌, leb, if◌then◌else◌}
+use Rattle.std.specs.Prelude.{ℕ, ◌+◌, ◌*◌, ◌-◌, ◌/◌, Bool, ◌&&◌, leb, if◌then◌else◌, Option, Some, None}
 use Rattle.lattice.specs.declared.Sizes.{Sizes}
 use Rattle.lattice.specs.declared.Kind.{Kind}
-use Rattle.lattice.specs.declared.Near.{Near}
-use Rattle.lattice.specs.declared.Near.TheVariants.{At, Nothing}
 use Rattle.lattice.specs.Axis.{Axis, everywhere}
 use Rattle.lattice.specs.Counts.{size}
 use Rattle.lattice.specs.Point.{doubled, other, number, kind_of, index_of}
@@ -26,11 +24,11 @@ unfoldable pub far_index : Kind → (Axis → ℕ) → ℕ → Axis → ℕ
 far_index k i c a = (doubled k (i a) + (step c a).up - (step c a).down) / 2
 
 -- the neighbour by a code of the point of a kind with these indices, or none
-unfoldable pub near : Sizes → Kind → (Axis → ℕ) → ℕ → Near
-near s k i c = if exists s k i c then At (number s (far_kind k c) (far_index k i c)) else Nothing
+unfoldable pub near : Sizes → Kind → (Axis → ℕ) → ℕ → Option ℕ
+near s k i c = if exists s k i c then Some (number s (far_kind k c) (far_index k i c)) else None
 
 -- the same for the point p
-abbrev pub neighbour : Sizes → ℕ → ℕ → Near
+abbrev pub neighbour : Sizes → ℕ → ℕ → Option ℕ
 neighbour s p c = near s (kind_of s p) (index_of s p) c
 
 -- "the edge from point p in direction d has byte 7p+d"

@@ -1,16 +1,14 @@
-// The seven directions, the fourteen codes, and where they lead.
+// The seven directions, and where the fourteen codes lead.
 ghost use Rattle.std.specs.Prelude.{◌≡◌, true, ◌+◌, ◌*◌, ◌-◌, ◌<◌, ◌≤◌};
-ghost use Rattle.lattice.specs.Counts.{Sized, largest};
-ghost use Rattle.lattice.specs.Direction.{Code};
+ghost use Rattle.lattice.specs.Counts.{largest};
 ghost use Rattle.lattice.specs.Point.{number};
 ghost use Rattle.lattice.specs.Edge.{exists, far_kind, far_index, near, edge_byte};
 ghost use Rattle.lattice.specs.inner.Site.{most, Sited, index, odd_of, stays_by, shift_along, shift_of, risen, fallen, Stride};
 
-use crate::{Kind, Near, Shift, Site, Sizes, numbers};
+use crate::edge_code::DIRECTIONS;
+use crate::{EdgeCode, Kind, Lattice, Shift, Site, Sizes, numbers};
 
-// How many directions there are, and how many of them are long.
-const DIRECTIONS: usize = 7;
-
+// The directions below this one are long.
 const LONG: usize = 3;
 
 // So far up along x, y and z, and so far down.
@@ -27,6 +25,8 @@ fn shift_by(ux: usize, uy: usize, uz: usize, dx: usize, dy: usize, dz: usize) ->
     }
 }
 
+// A line a direction.
+#[tactic(auto, unfolding(crate::specs::inner::Site::shift_along, crate::specs::Direction::direction, crate::specs::Direction::directions))]
 fn direction(d: usize) -> Shift
     requires { d < 7 }
     ensures { result ≡ shift_along d }
@@ -43,12 +43,11 @@ fn direction(d: usize) -> Shift
 }
 
 // Where a code leads: its direction, turned round where the point is the end.
-pub fn shift(code: usize) -> Shift
-    requires { Code code }
-    ensures { result ≡ shift_of code }
+pub fn shift(code: EdgeCode) -> Shift
+    ensures { result ≡ shift_of code.code }
 {
-    let t = direction((code - 1) % DIRECTIONS);
-    if code <= DIRECTIONS {
+    let t = direction(code.direction());
+    if code.is_start() {
         return t;
     }
     Shift {
@@ -61,13 +60,15 @@ pub fn shift(code: usize) -> Shift
     }
 }
 
-// 1 where doubled coordinates are odd.
-pub fn odd_of(kind: Kind) -> usize
-    ensures { result ≡ odd_of kind }
-{
-    match kind {
-        Kind::Corner => 0,
-        Kind::Centre => 1,
+impl Kind {
+    // 1 where doubled coordinates are odd.
+    pub fn odd(self) -> usize
+        ensures { result ≡ odd_of self }
+    {
+        match self {
+            Kind::Corner => 0,
+            Kind::Centre => 1,
+        }
     }
 }
 
@@ -76,49 +77,11 @@ fn stays(n: usize, w: usize, up: usize, down: usize) -> bool
     requires { (n ≤ largest) × (w ≤ 2 * largest + 1) × (up ≤ 2) × (down ≤ 2) }
     ensures { result ≡ stays_by n w up down }
 {
-    if down <= w {
-        return w + up <= 2 * n + down;
-    }
-    false
-}
-
-// Both ends of the edge by a code are in the block.
-pub fn is_edge(s: Sizes, q: Site, code: usize) -> bool
-    requires sized { Sized s }
-    requires sited { Sited s q }
-    requires code { Code code }
-    ensures { result ≡ exists s q.kind (index q) code }
-{
-    let t = shift(code);
-    let kind = q.kind;
-    let odd = odd_of(kind);
-    if stays(s.nx, 2 * q.x + odd, t.ux, t.dx) {
-        if stays(s.ny, 2 * q.y + odd, t.uy, t.dy) {
-            return stays(s.nz, 2 * q.z + odd, t.uz, t.dz);
-        }
-    }
-    false
-}
-
-// The number of the far end of an edge that exists, by strides from the point's own number or, on
-// a short edge, from the number of its indices in the other kind.
-fn reach(s: Sizes, q: Site, code: usize) -> usize
-    requires sized { Sized s }
-    requires sited { Sited s q }
-    requires code { Code code }
-    requires code_value { exists s q.kind (index q) code ≡ true }
-    ensures { result ≡ number s (far_kind q.kind code) (far_index q.kind (index q) code) }
-{
-    let t = shift(code);
-    let kind = q.kind;
-    let odd = odd_of(kind);
-    if (code - 1) % DIRECTIONS < LONG {
-        return stride(s.nx + 1 - odd, s.ny + 1 - odd, q.own, odd, t);
-    }
-    stride(s.nx + odd, s.ny + odd, q.across, odd, t)
+    down <= w && w + up <= 2 * n + down
 }
 
 // From a number in a grid of a by b by any, the cells that a step leads up and down.
+#[tactic(auto, unfolding(crate::specs::inner::Site::risen, crate::specs::inner::Site::fallen))]
 fn stride(a: usize, b: usize, base: usize, odd: usize, t: Shift) -> usize
     requires { Stride a b base odd t }
     ensures { result ≡ base + risen a b odd t - fallen a b odd t }
@@ -134,28 +97,57 @@ fn stride(a: usize, b: usize, base: usize, odd: usize, t: Shift) -> usize
     base + rise - fall
 }
 
-// The neighbour of a decoded point by a code.
-pub fn neighbour(s: Sizes, q: Site, code: usize) -> Near
-    requires sized { Sized s }
-    requires sited { Sited s q }
-    requires code { Code code }
-    ensures { result ≡ near s q.kind (index q) code }
-{
-    if is_edge(s, q, code) {
-        return Near::At(reach(s, q, code));
+impl Lattice {
+    // Both ends of the edge by a code are in the block.
+    pub fn is_edge(self, q: Site, code: EdgeCode) -> bool
+        requires { Sited self.sizes q }
+        ensures { result ≡ exists self.sizes q.kind (index q) code.code }
+    {
+        let Sizes { nx, ny, nz } = self.sizes;
+        let t = shift(code);
+        let odd = q.kind.odd();
+        stays(nx, 2 * q.x + odd, t.ux, t.dx)
+            && stays(ny, 2 * q.y + odd, t.uy, t.dy)
+            && stays(nz, 2 * q.z + odd, t.uz, t.dz)
     }
-    Near::Nothing
+
+    // The number of the far end of an edge that exists, by strides from the point's own number or, on
+    // a short edge, from the number of its indices in the other kind.
+    fn reach(self, q: Site, code: EdgeCode) -> usize
+        requires sited { Sited self.sizes q }
+        requires there { exists self.sizes q.kind (index q) code.code ≡ true }
+        ensures { result ≡ number self.sizes (far_kind q.kind code.code) (far_index q.kind (index q) code.code) }
+    {
+        let t = shift(code);
+        let odd = q.kind.odd();
+        let Sizes { nx, ny, nz: _ } = self.sizes;
+        if code.direction() < LONG {
+            stride(nx + 1 - odd, ny + 1 - odd, q.own, odd, t)
+        } else {
+            stride(nx + odd, ny + odd, q.across, odd, t)
+        }
+    }
+
+    // The neighbour of a decoded point by a code, if the edge exists.
+    #[tactic(auto, unfolding(crate::specs::Edge::near))]
+    pub fn neighbour(self, q: Site, code: EdgeCode) -> Option<usize>
+        requires { Sited self.sizes q }
+        ensures { result ≡ near self.sizes q.kind (index q) code.code }
+    {
+        if self.is_edge(q, code) {
+            Some(self.reach(q, code))
+        } else {
+            None
+        }
+    }
 }
 
 // The byte of the cut table that the edge from p by a code to q has.
-pub fn edge_byte(p: usize, code: usize, q: usize) -> usize
-    requires p_lt_most { (p < most) × (q < most) }
-    requires code { Code code }
-    ensures { result ≡ edge_byte p code q }
+#[tactic(auto, unfolding(crate::specs::Edge::edge_byte, crate::specs::Direction::is_start, crate::specs::Direction::direction_of))]
+pub fn edge_byte(p: usize, code: EdgeCode, q: usize) -> usize
+    requires { (p < most) × (q < most) }
+    ensures { result ≡ edge_byte p code.code q }
 {
-    let d = (code - 1) % DIRECTIONS;
-    if code <= DIRECTIONS {
-        return DIRECTIONS * p + d;
-    }
-    DIRECTIONS * q + d
+    let start = if code.is_start() { p } else { q };
+    DIRECTIONS * start + code.direction()
 }

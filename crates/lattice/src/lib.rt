@@ -1,10 +1,15 @@
 // The lattice of a block: its points and their numbers, edges, the rim.
 #![tactic(auto)]
 
+ghost use Rattle.lattice.specs.Counts.{Sized};
+
 pub mod counts;
+pub mod edge_code;
 pub mod edges;
 pub mod numbers;
 pub mod rim;
+
+pub use edge_code::EdgeCode;
 
 // The sizes of a block, in cubes.
 #[derive(Clone, Copy)]
@@ -12,6 +17,13 @@ pub struct Sizes {
     pub nx: usize,
     pub ny: usize,
     pub nz: usize,
+}
+
+// The lattice of a block whose sizes are taken: each is from 1 to 64.
+#[derive(Clone, Copy)]
+pub struct Lattice {
+    pub sizes: Sizes,
+    ghost sized: { Sized sizes },
 }
 
 // A lattice point is a cube corner or a cube centre.
@@ -22,7 +34,9 @@ pub enum Kind {
 }
 
 // A decoded lattice point: its kind, its three indices, its own number, and the number that its
-// indices have in the other kind. Every neighbour is a few strides from one of the two numbers.
+// indices have in the other kind. Every neighbour is a few strides from one of the two numbers. (That it is
+// a point of a lattice stands in contracts, as `Sited`: a site that held its lattice would have to be compared
+// with that of whatever it is looked up in.)
 #[derive(Clone, Copy)]
 pub struct Site {
     pub kind: Kind,
@@ -31,13 +45,6 @@ pub struct Site {
     pub z: usize,
     pub own: usize,
     pub across: usize,
-}
-
-// The far end of an edge, if the edge exists.
-#[derive(Clone, Copy)]
-pub enum Near {
-    At(usize),
-    Nothing,
 }
 
 // How far a code leads up and down along each axis, in doubled coordinates.

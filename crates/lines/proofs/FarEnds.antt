@@ -7,11 +7,11 @@ use mathlib.Core.Path.{◌≡◌, refl, sym, ap, ◌∙◌}
 use mathlib.Core.Bool.{Bool, true, false}
 use mathlib.Core.List.{List}
 use lib.ListN.{get_or}
+use Rattle.std.proofs.Common.{Some}
 use Rattle.basics.proofs.Test.{true_T}
 use Rattle.lattice.specs.declared.Sizes.{Sizes}
 use Rattle.lattice.specs.declared.Kind.{Kind}
 use Rattle.lattice.specs.declared.Kind.TheVariants.{Corner, Centre}
-use Rattle.lattice.specs.declared.Near.TheVariants.{At}
 use Rattle.lattice.specs.declared.Site.{Site}
 use Rattle.lattice.specs.Axis.{Axis}
 use Rattle.lattice.specs.Counts.{Sized, grid, cells}
@@ -25,7 +25,7 @@ use Rattle.lines.specs.inner.Lines.{line_at}
 use Rattle.lines.specs.inner.Strides.{ends_of, ends_at, starts_back, starts_of, starts_at, range_most}
 
 -- an edge leads some cells up and some down in the grid of its far end
-strides : (s : Sizes) (k : Kind) (i : Axis → ℕ) (c e : ℕ) → Code c → near s k i c ≡ At e
+strides : (s : Sizes) (k : Kind) (i : Axis → ℕ) (c e : ℕ) → Code c → near s k i c ≡ Some e
     → e + linear (grid s (far_kind k c)) (λ a. ((step c a).down + 1 - odd_of k) / 2)
     ≡ number s (far_kind k c) i + linear (grid s (far_kind k c)) (λ a. ((step c a).up + odd_of k) / 2)
 strides s k i c e h n = go (exists s k i c) refl
@@ -44,10 +44,10 @@ ending d h = record { low = omega arith; high = omega arith }
 -- the seven directions that end at a corner, and at a centre
 module _ (s : Sizes) (i : Axis → ℕ) (own low : ℕ) where
   pub corner_starts : own ≡ number s Corner i → low + (s.nx * s.ny + (s.nx + 1)) ≡ number s Centre i → (d : ℕ) → d < 7
-      → (e : ℕ) → near s Corner i (d + 8) ≡ At e → get_or (starts_back (s.nx + 1) ((s.nx + 1) * (s.ny + 1)) s.nx own low) d 0 ≡ e
+      → (e : ℕ) → near s Corner i (d + 8) ≡ Some e → get_or (starts_back (s.nx + 1) ((s.nx + 1) * (s.ny + 1)) s.nx own low) d 0 ≡ e
   unfolding starts_back linear far_kind long direction_of step is_start direction directions
   corner_starts o l =
-      by_direction (λ d. (e : ℕ) → near s Corner i (d + 8) ≡ At e → get_or (starts_back (s.nx + 1) ((s.nx + 1) * (s.ny + 1)) s.nx own low) d 0 ≡ e)
+      by_direction (λ d. (e : ℕ) → near s Corner i (d + 8) ≡ Some e → get_or (starts_back (s.nx + 1) ((s.nx + 1) * (s.ny + 1)) s.nx own low) d 0 ≡ e)
       (λ e n. omega (arith, strides s Corner i 8 e (ending 0 (omega arith)) n))
       (λ e n. omega (arith, strides s Corner i 9 e (ending 1 (omega arith)) n))
       (λ e n. omega (arith, strides s Corner i 10 e (ending 2 (omega arith)) n))
@@ -57,10 +57,10 @@ module _ (s : Sizes) (i : Axis → ℕ) (own low : ℕ) where
       (λ e n. omega (arith, strides s Corner i 14 e (ending 6 (omega arith)) n))
 
   pub centre_starts : own ≡ number s Centre i → low ≡ number s Corner i → (d : ℕ) → d < 7
-      → (e : ℕ) → near s Centre i (d + 8) ≡ At e → get_or (starts_back s.nx (s.nx * s.ny) (s.nx + 1) own low) d 0 ≡ e
+      → (e : ℕ) → near s Centre i (d + 8) ≡ Some e → get_or (starts_back s.nx (s.nx * s.ny) (s.nx + 1) own low) d 0 ≡ e
   unfolding starts_back linear far_kind long direction_of step is_start direction directions
   centre_starts o l =
-      by_direction (λ d. (e : ℕ) → near s Centre i (d + 8) ≡ At e → get_or (starts_back s.nx (s.nx * s.ny) (s.nx + 1) own low) d 0 ≡ e)
+      by_direction (λ d. (e : ℕ) → near s Centre i (d + 8) ≡ Some e → get_or (starts_back s.nx (s.nx * s.ny) (s.nx + 1) own low) d 0 ≡ e)
       (λ e n. omega (arith, strides s Centre i 8 e (ending 0 (omega arith)) n))
       (λ e n. omega (arith, strides s Centre i 9 e (ending 1 (omega arith)) n))
       (λ e n. omega (arith, strides s Centre i 10 e (ending 2 (omega arith)) n))
@@ -75,10 +75,10 @@ starting d h = record { low = omega arith; high = omega arith }
 -- the seven directions that start at a corner, and at a centre
 module _ (s : Sizes) (q : Site) where
   corner_ends : q.own ≡ number s Corner (index q) → q.across ≡ number s Centre (index q) → (d : ℕ) → d < 7
-      → (e : ℕ) → near s Corner (index q) (d + 1) ≡ At e → get_or (ends_of Corner s q) d 0 ≡ e
+      → (e : ℕ) → near s Corner (index q) (d + 1) ≡ Some e → get_or (ends_of Corner s q) d 0 ≡ e
   unfolding linear far_kind long direction_of step is_start direction directions
   corner_ends o l =
-      by_direction (λ d. (e : ℕ) → near s Corner (index q) (d + 1) ≡ At e → get_or (ends_of Corner s q) d 0 ≡ e)
+      by_direction (λ d. (e : ℕ) → near s Corner (index q) (d + 1) ≡ Some e → get_or (ends_of Corner s q) d 0 ≡ e)
       (λ e n. omega (arith, strides s Corner (index q) 1 e (starting 0 (omega arith)) n))
       (λ e n. omega (arith, strides s Corner (index q) 2 e (starting 1 (omega arith)) n))
       (λ e n. omega (arith, strides s Corner (index q) 3 e (starting 2 (omega arith)) n))
@@ -88,10 +88,10 @@ module _ (s : Sizes) (q : Site) where
       (λ e n. omega (arith, strides s Corner (index q) 7 e (starting 6 (omega arith)) n))
 
   centre_ends : q.own ≡ number s Centre (index q) → q.across ≡ number s Corner (index q) → (d : ℕ) → d < 7
-      → (e : ℕ) → near s Centre (index q) (d + 1) ≡ At e → get_or (ends_of Centre s q) d 0 ≡ e
+      → (e : ℕ) → near s Centre (index q) (d + 1) ≡ Some e → get_or (ends_of Centre s q) d 0 ≡ e
   unfolding linear far_kind long direction_of step is_start direction directions
   centre_ends o l =
-      by_direction (λ d. (e : ℕ) → near s Centre (index q) (d + 1) ≡ At e → get_or (ends_of Centre s q) d 0 ≡ e)
+      by_direction (λ d. (e : ℕ) → near s Centre (index q) (d + 1) ≡ Some e → get_or (ends_of Centre s q) d 0 ≡ e)
       (λ e n. omega (arith, strides s Centre (index q) 1 e (starting 0 (omega arith)) n))
       (λ e n. omega (arith, strides s Centre (index q) 2 e (starting 1 (omega arith)) n))
       (λ e n. omega (arith, strides s Centre (index q) 3 e (starting 2 (omega arith)) n))
@@ -126,7 +126,7 @@ module _ (s : Sizes) (q : Site) (g : Sited s q) where
   across_as : (k : Kind) → q.kind ≡ k → q.across ≡ number s (other k) (index q)
   across_as k e = g.across_is ∙ ap (λ (l : Kind). number s (other l) (index q)) e
 
-  near_as : (k : Kind) → q.kind ≡ k → (c e : ℕ) → near s q.kind (index q) c ≡ At e → near s k (index q) c ≡ At e
+  near_as : (k : Kind) → q.kind ≡ k → (c e : ℕ) → near s q.kind (index q) c ≡ Some e → near s k (index q) c ≡ Some e
   near_as k h c e n = ap (λ (l : Kind). near s l (index q) c) (sym h) ∙ n
 
   pub low_fits : q.kind ≡ Corner → s.nx * s.ny + (s.nx + 1) ≤ q.across
@@ -137,7 +137,7 @@ module _ (s : Sizes) (q : Site) (g : Sited s q) where
   line_fits_across k = omega (arith, low_fits k)
 
   -- the ends, by direction
-  pub end_is : (d : ℕ) → d < 7 → (e : ℕ) → near s q.kind (index q) (d + 1) ≡ At e → get_or (ends_at s q) d 0 ≡ e
+  pub end_is : (d : ℕ) → d < 7 → (e : ℕ) → near s q.kind (index q) (d + 1) ≡ Some e → get_or (ends_at s q) d 0 ≡ e
   unfolding ends_at
   end_is d h e n = go q.kind refl
     where
@@ -146,7 +146,7 @@ module _ (s : Sizes) (q : Site) (g : Sited s q) where
       go Centre k = centre_ends s q (own_as Centre k) (across_as Centre k) d h e (near_as Centre k (d + 1) e n)
 
   -- the starts, by direction
-  pub start_is : (d : ℕ) → d < 7 → (e : ℕ) → near s q.kind (index q) (d + 8) ≡ At e → get_or (starts_at s q) d 0 ≡ e
+  pub start_is : (d : ℕ) → d < 7 → (e : ℕ) → near s q.kind (index q) (d + 8) ≡ Some e → get_or (starts_at s q) d 0 ≡ e
   unfolding starts_at
   start_is d h e n = go q.kind refl
     where
@@ -210,7 +210,7 @@ back_within line layer wide own low high x d h =
     d
 
 pub start_within : (s : Sizes) (q : Site) → Sited s q → (x : ℕ) → Sited s (line_at q x) → (d : ℕ) → d < 7
-    → (e : ℕ) → near s q.kind (index (line_at q x)) (d + 8) ≡ At e → (get_or (starts_at s q) d 0 ≤ e) × (e ≤ get_or (starts_at s q) d 0 + x)
+    → (e : ℕ) → near s q.kind (index (line_at q x)) (d + 8) ≡ Some e → (get_or (starts_at s q) d 0 ≤ e) × (e ≤ get_or (starts_at s q) d 0 + x)
 unfolding starts_at
 start_within s q g x f d h e n = go q.kind refl is
   where

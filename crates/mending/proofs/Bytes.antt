@@ -13,8 +13,7 @@ use mathlib.Core.List.{List}
 use lib.Dec.{T, eqb}
 use lib.ListN.{get_or}
 use borrow.Author.Tests.{eq-eqb, ne_eqb, eqb-true, eqb-false}
-use Rattle.lattice.specs.declared.Near.{Near}
-use Rattle.lattice.specs.declared.Near.TheVariants.{At, Nothing}
+use Rattle.std.proofs.Common.{None, Option, Some}
 use Rattle.lattice.specs.Direction.{as_start}
 use Rattle.lattice.specs.Edge.{neighbour}
 use Rattle.moving.specs.declared.Label.{Label}
@@ -28,7 +27,7 @@ module _ (label : ℕ → Label) (b : Block) (o : ℕ) where
   abbrev start : ℕ
   start = o / 7
 
-  abbrev far : Near
+  abbrev far : Option ℕ
   far = neighbour b.sizes start (as_start (o % 7))
 
   abbrev must : Bool
@@ -70,13 +69,13 @@ module _ (label : ℕ → Label) (b : Block) (o : ℕ) where
         go false false c z = stray c (eqb-false _ _ z)
 
   -- an edge that crosses leads somewhere
-  pub crosses_far : must ≡ true → (q : ℕ) × (far ≡ At q) × (opposed (label start) (label q) ≡ true)
+  pub crosses_far : must ≡ true → (q : ℕ) × (far ≡ Some q) × (opposed (label start) (label q) ≡ true)
   unfolding crosses_to
   crosses_far c = go far refl c
     where
-      go : (n : Near) → far ≡ n → crosses_to b.sizes label start n ≡ true → (q : ℕ) × (far ≡ At q) × (opposed (label start) (label q) ≡ true)
-      go Nothing e c = absurd (subst T (sym c) tt)
-      go (At q) e c = (q, e, c)
+      go : (n : Option ℕ) → far ≡ n → crosses_to b.sizes label start n ≡ true → (q : ℕ) × (far ≡ Some q) × (opposed (label start) (label q) ≡ true)
+      go None e c = absurd (subst T (sym c) tt)
+      go (Some q) e c = (q, e, c)
 
   -- so what its byte becomes is not 0
   guess_some : must ≡ true → guess ≡ 0 → ⊥

@@ -13,10 +13,10 @@ use mathlib.Core.List.{List}
 use lib.Dec.{eqb}
 use lib.ListN.{length, get_or}
 use borrow.Author.Tests.{ne_eqb}
+use Rattle.std.proofs.Common.{Some}
 use Rattle.basics.specs.Lists.{count}
 use Rattle.basics.proofs.Search.{count_none}
 use Rattle.basics.proofs.Mapped.{read_all}
-use Rattle.lattice.specs.declared.Near.TheVariants.{At}
 use Rattle.lattice.specs.Counts.{points}
 use Rattle.lattice.specs.Direction.{as_start}
 use Rattle.lattice.specs.Edge.{neighbour}
@@ -92,7 +92,7 @@ module _ (band : ℕ) (b : Block) where
           absurd (omega (arith, r.some, ap (λ (m : Outcome). m.answer.number) e))
 
   pub near : (mend band b).answer.number ≡ 0 → (o : ℕ) → o < bytes → fault_at label b o ≡ 6
-      → (q : ℕ) × (neighbour b.sizes (o / 7) (as_start (o % 7)) ≡ At q)
+      → (q : ℕ) × (neighbour b.sizes (o / 7) (as_start (o % 7)) ≡ Some q)
       × Close (size_at b.samples (o / 7)) (size_at b.samples q) (get_or (mend band b).cuts o 0)
   unfolding byte_to labels
   near e o l f =

@@ -4,10 +4,8 @@
 --     fault_at                   what filling would say of a byte
 --     mended_byte, faults        what becomes of a byte, and how many are at fault
 --     mended, mend               the call
-use Rattle.std.specs.Prelude.{ℕ, ◌+◌, ◌*◌, ◌/◌, ◌%◌, not, List, map, ℤ, pos, nat_abs, length, get_or, ltb, eqb, if◌then◌else◌}
+use Rattle.std.specs.Prelude.{ℕ, ◌+◌, ◌*◌, ◌/◌, ◌%◌, not, List, map, ℤ, pos, nat_abs, length, get_or, ltb, eqb, if◌then◌else◌, Option, Some, None}
 use Rattle.basics.specs.Lists.{below, count}
-use Rattle.lattice.specs.declared.Near.{Near}
-use Rattle.lattice.specs.declared.Near.TheVariants.{At, Nothing}
 use Rattle.lattice.specs.Counts.{sizes_fit, points}
 use Rattle.lattice.specs.Direction.{as_start}
 use Rattle.lattice.specs.Edge.{neighbour}
@@ -33,9 +31,9 @@ abbrev pub size_at : List ℤ → ℕ → ℕ
 size_at samples p = size_of (get_or samples p (pos 0))
 
 -- the byte of the edge from p to this neighbour, if it must have one
-unfoldable pub byte_to : List ℤ → ℕ → Near → ℕ
-byte_to samples p Nothing = 0
-byte_to samples p (At q) = held (rounded (size_at samples p) (size_at samples q))
+unfoldable pub byte_to : List ℤ → ℕ → Option ℕ → ℕ
+byte_to samples p None = 0
+byte_to samples p (Some q) = held (rounded (size_at samples p) (size_at samples q))
 
 -- the answer and the cut table after the call
 pub record Outcome : Type 0 where

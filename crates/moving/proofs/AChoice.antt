@@ -5,22 +5,21 @@ use Prim.Native.Nat.{ℕ}
 use mathlib.Core.Path.{◌≡◌, refl}
 use mathlib.Core.List.{List, [], ◌∷◌, map}
 use lib.ListN.{get_or}
+use Rattle.std.proofs.Common.{None, Option, Some}
 use Rattle.basics.specs.cases.Table.{Entry, ◌:=◌, table_of}
 use Rattle.lattice.specs.Direction.{long, is_start, direction_of}
-use Rattle.moving.specs.declared.Violation.{Violation}
-use Rattle.moving.specs.declared.Violation.TheVariants.{No, Distance}
 use Rattle.moving.specs.Violation.{rule1, limit, measured, squared, violation}
 use Rattle.moving.specs.State.{is_move}
 use Rattle.moving.specs.Nearest.{nearer, nearest_to, nearest}
 
 -- a cut byte against a point with a code
-abbrev against : Entry → Violation
+abbrev against : Entry → Option ℕ
 against (c := t) = violation rule1 c t
 
 -- "With t counted from the point, compare 4 times t squared on long edges and 3 times t squared on short ones"
 pub distances :
     map against (1 := 60 ∷ 8 := 196 ∷ 4 := 66 ∷ 11 := 190 ∷ 1 := 63 ∷ 1 := 64 ∷ 14 := 151 ∷ 14 := 150 ∷ 7 := 0 ∷ 14 := 0 ∷ [])
-    ≡ Distance 14400 ∷ Distance 14400 ∷ Distance 13068 ∷ Distance 13068 ∷ Distance 15876 ∷ No ∷ Distance 33075 ∷ No ∷ No ∷ No ∷ []
+    ≡ Some 14400 ∷ Some 14400 ∷ Some 13068 ∷ Some 13068 ∷ Some 15876 ∷ None ∷ Some 33075 ∷ None ∷ None ∷ None ∷ []
 unfolding violation limit measured squared long is_start direction_of
 distances = refl
 

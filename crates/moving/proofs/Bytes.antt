@@ -9,16 +9,13 @@ use lib.ListN.{length, get_or, set}
 use lib.Seq.{get_or-set_same, get_or-set_other}
 use lib.Dec.{T, eqb, leb, leb→le}
 use borrow.Author.Tests.{eqb-true, eqb-false, eq-eqb, ne_eqb, le-leb, lt-leb}
-use Rattle.std.specs.Prelude.{if◌then◌else◌}
+use Rattle.std.specs.Prelude.{if◌then◌else◌, Option, Some, None}
 use Rattle.basics.proofs.Test.{&&-l, &&-r, &&-i, or_cases, true_T, T_true}
-use Rattle.lattice.specs.declared.Near.{Near}
-use Rattle.lattice.specs.declared.Near.TheVariants.{At, Nothing}
 use Rattle.lattice.specs.Counts.{points}
 use Rattle.lattice.specs.Direction.{Code, direction_of}
 use Rattle.lattice.specs.Edge.{neighbour}
 use Rattle.moving.specs.declared.Label.{Label}
 use Rattle.moving.specs.declared.Label.TheVariants.{Zero}
-use Rattle.moving.specs.declared.Violation.TheVariants.{No, Distance}
 use Rattle.moving.specs.Label.{is_zero}
 use Rattle.moving.specs.Violation.{Rule, limit, measured, squared, violation, violated, violates}
 use Rattle.moving.specs.State.{is_move, skin_mark, no_move}
@@ -121,7 +118,7 @@ unfolding violation violated
 violates_within r c t v = go (not (eqb t 0) && leb (measured c t) (limit r (direction_of c))) refl v
   where
     go : (b : Bool) → (not (eqb t 0) && leb (measured c t) (limit r (direction_of c))) ≡ b
-        → T (violated (if b then Distance (squared (direction_of c) (measured c t)) else No))
+        → T (violated (if b then Some (squared (direction_of c) (measured c t)) else None))
         → measured c t ≤ limit r (direction_of c)
     go true e v = leb→le _ _ (&&-r (not (eqb t 0)) _ (true_T _ e))
     go false e v = absurd v
@@ -132,8 +129,8 @@ module _ (m : Reading) (codes : List ℕ) (p c : ℕ) where
   unfolding violation_along violated live
   violating_of h k t = go (neighbour m.sizes p c) refl t
     where
-      along : (q : ℕ) → neighbour m.sizes p c ≡ At q → (b : Bool) → live m.label codes p q ≡ b
-          → T (violated (if b then violation m.rule c (cut_along m p c q) else No)) → MayMove m codes p c
+      along : (q : ℕ) → neighbour m.sizes p c ≡ Some q → (b : Bool) → live m.label codes p q ≡ b
+          → T (violated (if b then violation m.rule c (cut_along m p c q) else None)) → MayMove m codes p c
       along q e false l t = absurd t
       along q e true l t =
           let here-alive = not (is_zero (label_after m.label codes p)) in (
@@ -146,9 +143,9 @@ module _ (m : Reading) (codes : List ℕ) (p c : ℕ) where
             },
           )
 
-      go : (n : Near) → neighbour m.sizes p c ≡ n → T (violated (violation_along m codes p c n)) → MayMove m codes p c
-      go Nothing e t = absurd t
-      go (At q) e t = along q e (live m.label codes p q) refl t
+      go : (n : Option ℕ) → neighbour m.sizes p c ≡ n → T (violated (violation_along m codes p c n)) → MayMove m codes p c
+      go None e t = absurd t
+      go (Some q) e t = along q e (live m.label codes p q) refl t
 
   pub violating_i : (q : ℕ) → Violating m codes p c q → T (violated_by m codes p c)
   unfolding violation_along live

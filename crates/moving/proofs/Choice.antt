@@ -8,7 +8,7 @@ use mathlib.Core.Path.{◌≡◌, subst}
 use mathlib.Core.Logic.{inl, inr}
 use mathlib.Core.List.{List}
 use lib.Dec.{T}
-use Rattle.moving.specs.declared.Violation.{Violation}
+use Rattle.std.proofs.Common.{Option}
 use Rattle.moving.specs.Violation.{violated}
 use Rattle.moving.specs.Reading.{Reading, violation_by}
 use Rattle.moving.specs.Moving.{choice}
@@ -32,7 +32,7 @@ module _ (m : Reading) where
   unfolding choice violated
   choice_complete p t z c q v =
       elim (nearest_or (violation_by m t p) 14 (omega arith)) [
-        | inl h ↦ subst (λ (w : Violation). T (violated w)) (h.1 c v.edge.code.low v.edge.code.high) (violating_i m t p c q v)
+        | inl h ↦ subst (λ (w : Option ℕ). T (violated w)) (h.1 c v.edge.code.low v.edge.code.high) (violating_i m t p c q v)
         | inr g ↦ omega (arith, g.1.low)
       ]
 

@@ -12,50 +12,48 @@ use mathlib.Core.Path.{◌≡◌, refl, sym, ap, subst, ◌∙◌}
 use mathlib.Core.Logic.{◌⊎◌, inl, inr}
 use lib.Dec.{T}
 use borrow.Author.Tests.{lt-ltb, le-ltb}
-use Rattle.std.specs.Prelude.{if◌then◌else◌}
+use Rattle.std.specs.Prelude.{if◌then◌else◌, Option, Some, None}
 use Rattle.basics.proofs.Test.{lt_or}
-use Rattle.moving.specs.declared.Violation.{Violation}
-use Rattle.moving.specs.declared.Violation.TheVariants.{No, Distance}
 use Rattle.moving.specs.Violation.{violated}
 use Rattle.moving.specs.Nearest.{nearer, by_code, nearest_to}
 use Rattle.moving.proofs.Bytes.{code_move, zero_rests}
 
 -- of two distances that are one
-same_distance : {v : Violation} {d e : ℕ} → v ≡ Distance d → v ≡ Distance e → d ≡ e
+same_distance : {v : Option ℕ} {d e : ℕ} → v ≡ Some d → v ≡ Some e → d ≡ e
 same_distance {d = d} f g = ap distance (sym f ∙ g)
   where
-    distance : Violation → ℕ
-    distance No = d
-    distance (Distance x) = x
+    distance : Option ℕ → ℕ
+    distance None = d
+    distance (Some x) = x
 
-no_distance : {v : Violation} {d : ℕ} → v ≡ No → v ≡ Distance d → ⊥
+no_distance : {v : Option ℕ} {d : ℕ} → v ≡ None → v ≡ Some d → ⊥
 unfolding violated
-no_distance f g = subst (λ (w : Violation). T (violated w)) (sym g ∙ f) tt
+no_distance f g = subst (λ (w : Option ℕ). T (violated w)) (sym g ∙ f) tt
 
-module _ (by : ℕ → Violation) where
+module _ (by : ℕ → Option ℕ) where
   -- of the codes 1 to n
   pub record Nearest (n c d : ℕ) : Type 0 where
     pub low : 1 ≤ c
     pub high : c ≤ n
     -- the chosen code violates, at the squared distance d
-    pub at : by c ≡ Distance d
+    pub at : by c ≡ Some d
     -- "nearest": no violating code is nearer
-    pub least : (e x : ℕ) → 1 ≤ e → e ≤ n → by e ≡ Distance x → d ≤ x
+    pub least : (e x : ℕ) → 1 ≤ e → e ≤ n → by e ≡ Some x → d ≤ x
     -- "a tie goes to the lower code": none as near has a lower code
-    pub tie : (e x : ℕ) → 1 ≤ e → e < c → by e ≡ Distance x → d < x
+    pub tie : (e x : ℕ) → 1 ≤ e → e < c → by e ≡ Some x → d < x
 
   -- nothing violates
   abbrev pub Quiet : ℕ → Type 0
-  Quiet n = (e : ℕ) → 1 ≤ e → e ≤ n → by e ≡ No
+  Quiet n = (e : ℕ) → 1 ≤ e → e ≤ n → by e ≡ None
 
   abbrev Either : ℕ → ℕ → Type 0
   Either n c = ((c ≡ 0) × Quiet n) ⊎ ((d : ℕ) × Nearest n c d)
 
-  quiet_on : (n : ℕ) → Quiet n → by (suc n) ≡ No → Quiet (suc n)
+  quiet_on : (n : ℕ) → Quiet n → by (suc n) ≡ None → Quiet (suc n)
   quiet_on n q v e l u = elim (lt_or n e) [ inl k ↦ ap by (omega arith) ∙ v | inr k ↦ q e l k ]
 
   -- one code more: it is the nearest now, or the one before still is
-  nearest_new : (n x : ℕ) → by (suc n) ≡ Distance x → ((e y : ℕ) → 1 ≤ e → e ≤ n → by e ≡ Distance y → x < y)
+  nearest_new : (n x : ℕ) → by (suc n) ≡ Some x → ((e y : ℕ) → 1 ≤ e → e ≤ n → by e ≡ Some y → x < y)
       → Nearest (suc n) (suc n) x
   nearest_new n x v h =
       record {
@@ -70,7 +68,7 @@ module _ (by : ℕ → Violation) where
         tie = λ e y l u w. h e y l (omega arith) w;
       }
 
-  nearest_still : (n c d : ℕ) → Nearest n c d → ((x : ℕ) → by (suc n) ≡ Distance x → d ≤ x) → Nearest (suc n) c d
+  nearest_still : (n c d : ℕ) → Nearest n c d → ((x : ℕ) → by (suc n) ≡ Some x → d ≤ x) → Nearest (suc n) c d
   nearest_still n c d h far =
       record {
         low = h.low;
@@ -81,14 +79,14 @@ module _ (by : ℕ → Violation) where
         tie = h.tie;
       }
 
-  nearest_step : (n c : ℕ) → n ≤ 14 → Either n c → (v : Violation) → by (suc n) ≡ v
+  nearest_step : (n c : ℕ) → n ≤ 14 → Either n c → (v : Option ℕ) → by (suc n) ≡ v
       → Either (suc n) (if nearer v (by_code by c) then suc n else c)
   unfolding nearer
-  nearest_step n c k (inl (z, q)) No e = inl (z, quiet_on n q e)
-  nearest_step n c k (inl (z, q)) (Distance x) e =
+  nearest_step n c k (inl (z, q)) None e = inl (z, quiet_on n q e)
+  nearest_step n c k (inl (z, q)) (Some x) e =
       rw (zero_rests c z) (inr (x, nearest_new n x e (λ j y l u w. absurd (no_distance (q j l u) w))))
-  nearest_step n c k (inr (d, h)) No e = inr (d, nearest_still n c d h (λ x w. absurd (no_distance e w)))
-  nearest_step n c k (inr (d, h)) (Distance x) e =
+  nearest_step n c k (inr (d, h)) None e = inr (d, nearest_still n c d h (λ x w. absurd (no_distance e w)))
+  nearest_step n c k (inr (d, h)) (Some x) e =
       rw (code_move c (record { low = h.low; high = omega (arith, h.high) }), h.at)
       (elim (lt_or x d) [
         | inl l ↦ rw (lt-ltb x d l) (inr (x, nearest_new n x e (λ j y a b w. omega (arith, h.least j y a b w))))
@@ -119,8 +117,8 @@ module _ (by : ℕ → Violation) where
       ]
 
 -- g violates only as f does
-module _ (f g : ℕ → Violation) (n : ℕ) (k : n ≤ 14) (fewer : (e : ℕ) → 1 ≤ e → e ≤ n → (g e ≡ f e) ⊎ (g e ≡ No)) where
-  fewer_distance : (e x : ℕ) → 1 ≤ e → e ≤ n → g e ≡ Distance x → f e ≡ Distance x
+module _ (f g : ℕ → Option ℕ) (n : ℕ) (k : n ≤ 14) (fewer : (e : ℕ) → 1 ≤ e → e ≤ n → (g e ≡ f e) ⊎ (g e ≡ None)) where
+  fewer_distance : (e x : ℕ) → 1 ≤ e → e ≤ n → g e ≡ Some x → f e ≡ Some x
   fewer_distance e x l u w = elim (fewer e l u) [ inl s ↦ sym s ∙ w | inr z ↦ absurd (no_distance z w) ]
 
   pub fewer_none : nearest_to f n ≡ 0 → nearest_to g n ≡ 0

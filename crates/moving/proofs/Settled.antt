@@ -10,7 +10,7 @@ use mathlib.Core.Path.{◌≡◌}
 use mathlib.Core.Logic.{◌⊎◌}
 use lib.ListN.{length, get_or}
 use lib.Dec.{T}
-use Rattle.lattice.specs.declared.Near.TheVariants.{At}
+use Rattle.std.proofs.Common.{Some}
 use Rattle.lattice.specs.Counts.{points}
 use Rattle.lattice.specs.Direction.{Code}
 use Rattle.lattice.specs.Edge.{neighbour}
@@ -28,7 +28,7 @@ module _ (m : Reading) where
   pub record Edge (p c q : ℕ) : Type 0 where
     pub point : p < points m.sizes
     pub code : Code c
-    pub leads : neighbour m.sizes p c ≡ At q
+    pub leads : neighbour m.sizes p c ≡ Some q
 
   -- the edge from p by the code c leads to q, its cut is live at this time, and it violates p
   pub record Violating (codes : List ℕ) (p c q : ℕ) : Type 0 where

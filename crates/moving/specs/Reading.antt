@@ -3,15 +3,11 @@
 --     label_after, live              labels while points move
 --     cut_along                      the cut byte of an edge
 --     violation_along, violation_by   how a live cut violates a point
-use Rattle.std.specs.Prelude.{ℕ, Bool, not, ◌&&◌, List, get_or, if◌then◌else◌}
+use Rattle.std.specs.Prelude.{ℕ, Bool, not, ◌&&◌, List, get_or, if◌then◌else◌, Option, Some, None}
 use Rattle.lattice.specs.declared.Sizes.{Sizes}
-use Rattle.lattice.specs.declared.Near.{Near}
-use Rattle.lattice.specs.declared.Near.TheVariants.{At, Nothing}
 use Rattle.lattice.specs.Edge.{neighbour, edge_byte}
 use Rattle.moving.specs.declared.Label.{Label}
 use Rattle.moving.specs.declared.Label.TheVariants.{Zero}
-use Rattle.moving.specs.declared.Violation.{Violation}
-use Rattle.moving.specs.declared.Violation.TheVariants.{No}
 use Rattle.moving.specs.Label.{is_zero}
 use Rattle.moving.specs.Violation.{Rule, violation}
 use Rattle.moving.specs.State.{says_zero}
@@ -37,9 +33,9 @@ module _ (m : Reading) where
   cut_along p c q = get_or m.cuts (edge_byte p c q) 0
 
   -- how the cut on the edge by code c, to this neighbour, violates p: not at all unless it is live
-  unfoldable pub violation_along : List ℕ → ℕ → ℕ → Near → Violation
-  violation_along codes p c Nothing = No
-  violation_along codes p c (At q) = if live m.label codes p q then violation m.rule c (cut_along p c q) else No
+  unfoldable pub violation_along : List ℕ → ℕ → ℕ → Option ℕ → Option ℕ
+  violation_along codes p c None = None
+  violation_along codes p c (Some q) = if live m.label codes p q then violation m.rule c (cut_along p c q) else None
 
-  abbrev pub violation_by : List ℕ → ℕ → ℕ → Violation
+  abbrev pub violation_by : List ℕ → ℕ → ℕ → Option ℕ
   violation_by codes p c = violation_along codes p c (neighbour m.sizes p c)

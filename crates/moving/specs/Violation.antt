@@ -3,10 +3,8 @@
 --     measured, squared    how far a cut is from an end
 --     violation            no, or that distance squared: the one test, for everyone who asks
 --     violated, violates   only whether it does
-use Rattle.std.specs.Prelude.{ℕ, ◌*◌, ◌-◌, Bool, true, false, not, ◌&&◌, leb, eqb, if◌then◌else◌}
+use Rattle.std.specs.Prelude.{ℕ, ◌*◌, ◌-◌, Bool, true, false, not, ◌&&◌, leb, eqb, if◌then◌else◌, Option, Some, None}
 use Rattle.lattice.specs.Direction.{long, is_start, direction_of}
-use Rattle.moving.specs.declared.Violation.{Violation}
-use Rattle.moving.specs.declared.Violation.TheVariants.{No, Distance}
 
 -- the two limits by which rules of moving differ
 pub record Rule : Type 0 where
@@ -30,14 +28,14 @@ squared d t = (if long d then 4 else 3) * (t * t)
 
 -- "The test for violation must therefore also give that squared distance to everyone who uses it": the cut byte t against the
 -- end at which a point with code c is; byte 0 is no cut
-unfoldable pub violation : Rule → ℕ → ℕ → Violation
+unfoldable pub violation : Rule → ℕ → ℕ → Option ℕ
 violation r c t =
     let d = direction_of c in
-    if not (eqb t 0) && leb (measured c t) (limit r d) then Distance (squared d (measured c t)) else No
+    if not (eqb t 0) && leb (measured c t) (limit r d) then Some (squared d (measured c t)) else None
 
-unfoldable pub violated : Violation → Bool
-violated No = false
-violated (Distance d) = true
+unfoldable pub violated : Option ℕ → Bool
+violated None = false
+violated (Some d) = true
 
 abbrev pub violates : Rule → ℕ → ℕ → Bool
 violates r c t = violated (violation r c t)

@@ -9,13 +9,13 @@ use mathlib.Core.Bool.{false}
 use mathlib.Core.List.{List}
 use lib.ListN.{length, get_or}
 use Rattle.basics.proofs.Test.{false_F, lt_or}
-use Rattle.lattice.specs.declared.Sizes.{Sizes}
+use Rattle.places.specs.declared.stored.Stored.{Stored}
 use Rattle.windows.specs.inner.Windows.{window, Spread, Missed, NextHit}
 use Rattle.windows.proofs.Missing.{missed_unused}
 use Rattle.numbering.specs.Nodes.{used, node_number}
 use Rattle.numbering.proofs.Used.{used_at, number_gap}
 use Rattle.numbering.proofs.Table.{table_to, table_gap}
-use Rattle.nodes.specs.inner.Rounds.{all_ids, settled, Filled, Reached}
+use Rattle.nodes.specs.inner.Rounds.{settled, Filled, Reached}
 use Rattle.nodes.proofs.Surveying.{spread_known}
 use Rattle.nodes.proofs.Settling.{settled_low, settled_high}
 
@@ -44,15 +44,16 @@ module _ {hits rows : List ℕ} {n v w : ℕ} (spread : Spread hits rows (length
         ]
       ]
 
-  pub reached_skip : {s : Sizes} {cuts state : List ℕ} {first at : ℕ} {now old new : List ℕ} → Reached s cuts state rows v first at now old new
-      → Reached s cuts state rows w first at now old new
-  reached_skip {s} {cuts} {state} {at = at} {old = old} {new = new} h =
+  pub reached_skip : {st : Stored} {first at : ℕ} {now old new : List ℕ} → Reached st rows v first at now old new
+      → Reached st rows w first at now old new
+  reached_skip {st} {at = at} {old = old} {new = new} h =
       record {
         counted = h.counted ∙ sym (number_gap rows (window * v) (window * w - window * v) none) ∙ ap (node_number rows) gap;
         long = h.long;
         is = λ j l. h.is j l ∙ same j l;
         written =
-            subst (λ (t : List ℕ). Filled t (4 * node_number rows all_ids) old new at)
-            (sym (table_gap s cuts state rows (window * v) (window * w - window * v) none) ∙ ap (table_to s cuts state rows) gap)
+            subst (λ (t : List ℕ). Filled t old new at)
+            (sym (table_gap st.lattice.sizes st.cuts.now st.state.now rows (window * v) (window * w - window * v) none)
+            ∙ ap (table_to st.lattice.sizes st.cuts.now st.state.now rows) gap)
             h.written;
       }

@@ -3,81 +3,100 @@
 // that is still to come.
 ghost use Rattle.std.specs.Prelude.{◌≡◌, map, ◌+◌, ◌*◌, ◌≤◌, ◌<◌, ◌^◌, length};
 ghost use Rattle.filling.specs.Fill.{overwritten};
-ghost use Rattle.bitmap.specs.inner.Bits.{Ranks};
-ghost use Rattle.windows.specs.inner.Windows.{window, words, windows, hit_words, Known, Windowed, put_in, Rewrites};
+ghost use Rattle.windows.specs.inner.Windows.{window, Known, Windowed, put_in, Rewrites};
 ghost use Rattle.numbering.specs.Nodes.{node_number, node_table};
-ghost use Rattle.nodes.specs.inner.Rounds.{all_ids, AllIn, Kept};
+ghost use Rattle.nodes.specs.inner.Rounds.{all_ids, AllIn};
 
+use bitmap::{Bits, Ranking};
 use coordinates::write;
-use lattice::Sizes;
-use windows::{hit, looks, passes, spread};
+use places::Stored;
+use windows::hits::Hits;
+use windows::numbers;
+use windows::window::{WINDOWS, WORDS, Window};
 
-// Rewrites the entries of a window. Where the numbers of its ids have room in the part of the node table that
-// is still to be written, they stand there for the while: an entry is then looked up, not counted.
+// Rewrites the entries of a window. Where the numbers of its ids have room in what is spare, they stand there for
+// the while: an entry is then looked up, not counted.
 fn rewrite_window(
-    bits: &[u64],
-    hits: &[u64],
-    ranks: &[u32],
-    first: u32,
+    hits: &Hits,
+    w: Window,
+    ranking: Ranking<WORDS>,
     rows: &mut [u32],
-    nodes: &mut [u32],
-    at: usize,
-    end: usize,
-    w: usize,
+    spare: &mut [u32],
 )
-    requires bits_len { length bits.now ≡ words }
-    requires hits_len { length hits.now ≡ hit_words }
-    requires ranks { Ranks bits.now first ranks.now }
-    requires window_bound { first + window < 2 ^ 32 }
-    requires w_lt_windows { w < windows }
-    requires known { Known hits.now rows.old w }
-    requires at_le_end { (at ≤ end) × (end ≤ length nodes.old) }
-    ensures rows { Rewrites (put_in bits.now first (window * w)) (length rows.old)
+    requires { Known hits.now.bits.words rows.old w.index }
+    ensures { Rewrites (put_in ranking.entry.bits.now.words ranking.entry.first (window * w.index)) (length rows.old)
         rows.old rows.new }
-    ensures nodes { Kept at end nodes.old nodes.new }
 {
-    if end - at < spread::WINDOW {
-        passes::number_window(bits, hits, ranks, first, rows, w);
-        return;
+    match spare.first_chunk_mut() {
+        Some(table) => {
+            numbers::unroll(ranking.bits, ranking.first, table);
+            hits.rewrite_window(rows, w, &*table);
+        }
+        None => hits.rewrite_window(rows, w, ranking),
     }
-    looks::unroll(bits, &mut nodes[at..at + spread::WINDOW], first);
-    looks::look_window(&nodes[at..at + spread::WINDOW], hits, rows, w);
 }
 
-// Writes the nodes and rewrites the rows. The end is that of the nodes, four numbers each: from there on
-// the node table stays.
-pub fn assign(
-    s: Sizes,
-    cuts: &[u8],
-    state: &[u8],
+// Writes the nodes and rewrites the rows. The node table has four numbers for each node, and no more.
+// (The first window is written whether it is hit or not, so the loop asks for the next one at its end.)
+fn assign_all(
+    stored: Stored,
     rows: &mut [u32],
     nodes: &mut [u32],
-    hits: &[u64],
-    bits: &mut [u64],
-    ranks: &mut [u32],
+    hits: &Hits,
+    bits: &mut Bits<WORDS>,
+    ranks: &mut [u32; WORDS],
+)
+    requires all_in { AllIn stored rows.old hits.now.bits.words }
+    requires windowed { Windowed 0 rows.old bits.old.words }
+    requires nodes_len { length nodes.old ≡ 4 * node_number rows.old all_ids }
+    ensures rows { rows.new ≡ map (node_number rows.old) rows.old }
+    ensures nodes { nodes.new
+        ≡ node_table stored.entry.lattice.sizes stored.entry.cuts.now stored.entry.state.now rows.old }
+{
+    let sizes = stored.lattice.sizes;
+    let cuts = stored.cuts;
+    let state = stored.state;
+    let mut first: u32 = 0;
+    let mut at: usize = 0;
+    let mut w = Window { index: 0 };
+    loop {
+        let next = bits.rank(ranks, first);
+        rewrite_window(
+            hits,
+            w,
+            Ranking { bits, ranks, first },
+            rows,
+            &mut nodes[at..],
+        );
+        at = write::write_bits(sizes, cuts, state, &bits.words, w.first_id(), nodes, at);
+        first = next;
+        let Some(hit) = hits.next_hit(rows.len(), w.index + 1) else {
+            return;
+        };
+        w = hit;
+        hits.mark_window(bits, rows, w);
+    }
+}
+
+// The same for a node table of any length. The end is that of the nodes, four numbers each: from there on the node
+// table stays.
+pub fn assign(
+    stored: Stored,
+    rows: &mut [u32],
+    nodes: &mut [u32],
+    hits: &Hits,
+    bits: &mut Bits<WORDS>,
+    ranks: &mut [u32; WORDS],
     end: usize,
 )
-    requires all_in { AllIn s cuts.now state.now rows.old hits.now }
-    requires windowed { Windowed 0 rows.old bits.old }
-    requires ranks_len { length ranks.old ≡ words }
+    requires all_in { AllIn stored rows.old hits.now.bits.words }
+    requires windowed { Windowed 0 rows.old bits.old.words }
     requires end_value { end ≡ 4 * node_number rows.old all_ids }
     requires end_in_bounds { end ≤ length nodes.old }
     ensures rows { rows.new ≡ map (node_number rows.old) rows.old }
-    ensures nodes { nodes.new ≡ overwritten (node_table s cuts.now state.now rows.old)
+    ensures nodes { nodes.new
+        ≡ overwritten (node_table stored.entry.lattice.sizes stored.entry.cuts.now stored.entry.state.now rows.old)
         nodes.old }
 {
-    let mut first: u32 = 0;
-    let mut at: usize = 0;
-    let mut w: usize = 0;
-    loop {
-        let next = bitmap::rank(bits, ranks, first);
-        rewrite_window(bits, hits, ranks, first, rows, nodes, at, end, w);
-        at = write::write_bits(s, cuts, state, bits, spread::WINDOW * w, nodes, at);
-        first = next;
-        w = hit::next_hit(hits, rows.len(), w + 1);
-        if w == spread::WINDOWS {
-            return;
-        }
-        passes::mark_window(bits, hits, rows, w);
-    }
+    assign_all(stored, rows, &mut nodes[..end], hits, bits, ranks);
 }

@@ -4,11 +4,5 @@
 
 pub mod assign;
 pub mod block;
+pub mod refused;
 pub mod survey;
-
-// Whether every id in use has a place, and how many there are.
-#[derive(Clone, Copy)]
-pub struct Tally {
-    pub placed: bool,
-    pub nodes: u32,
-}

@@ -1,80 +1,49 @@
 // The first round over the windows, from the last one down: the ids in use are checked and counted.
-ghost use Rattle.std.specs.Prelude.{◌≡◌, true, false, ◌*◌, ◌≤◌, ◌<◌, length};
-ghost use Rattle.windows.specs.inner.Windows.{window, words, windows, hit_words, Spread, Windowed};
-ghost use Rattle.coordinates.specs.inner.Marked.{Stored};
+ghost use Rattle.std.specs.Prelude.{◌≡◌, ◌*◌, ◌≤◌, length, MatchOption};
+ghost use Rattle.windows.specs.inner.Windows.{window, Spread, Windowed};
 ghost use Rattle.nodes.specs.inner.Rounds.{all_ids, Found, Counted, SomeUnplaced};
 
-use crate::Tally;
+use bitmap::Bits;
 use coordinates::check;
-use lattice::Sizes;
-use windows::{hit, passes, spread};
+use places::Stored;
+use windows::hits::Hits;
+use windows::window::{WINDOWS, WORDS, Window};
 
 // One window: its ids in use are marked, checked and counted on.
 fn survey_window(
-    s: Sizes,
-    cuts: &[u8],
-    state: &[u8],
+    stored: Stored,
     rows: &[u32],
-    hits: &[u64],
-    bits: &mut [u64],
-    ranks: &mut [u32],
-    w: usize,
+    hits: &Hits,
+    bits: &mut Bits<WORDS>,
+    w: Window,
     total: u32,
-) -> Tally
-    requires stored { Stored s cuts.now state.now }
-    requires spread { Spread hits.now rows.now (length rows.now) }
-    requires hits_len { length hits.now ≡ hit_words }
-    requires bits_len { (length bits.old ≡ words) × (length ranks.old ≡ words) }
-    requires w_lt_windows { (w < windows) × (total ≤ all_ids) }
-    ensures ranks_len { length ranks.new ≡ words }
-    ensures windowed { Windowed (window * w) rows.now bits.new }
-    ensures found { result.placed ≡ true → Found s cuts.now state.now rows.now w total result.nodes }
-    ensures some_unplaced { result.placed ≡ false → SomeUnplaced s cuts.now state.now rows.now }
+) -> Option<u32>
+    requires spread { Spread hits.now.bits.words rows.now (length rows.now) }
+    requires total_bound { total ≤ all_ids }
+    ensures windowed { Windowed (window * w.index) rows.now bits.new.words }
+    ensures found { MatchOption result (SomeUnplaced stored.entry rows.now)
+        (λ next. Found stored.entry rows.now w.index total next) }
 {
-    passes::mark_window(bits, hits, rows, w);
-    if !check::bits_placed(s, cuts, state, bits, spread::WINDOW * w) {
-        return Tally {
-            placed: false,
-            nodes: 0,
-        };
+    hits.mark_window(bits, rows, w);
+    if !check::bits_placed(stored, &bits.words, w.first_id()) {
+        return None;
     }
-    let nodes = bitmap::rank(bits, ranks, total);
-    Tally {
-        placed: true,
-        nodes,
-    }
+    Some(total + bits.count())
 }
 
-// Whether every id in use has a place, and how many there are. The first window, which is looked at
-// last, stays marked.
-pub fn survey(
-    s: Sizes,
-    cuts: &[u8],
-    state: &[u8],
-    rows: &[u32],
-    hits: &[u64],
-    bits: &mut [u64],
-    ranks: &mut [u32],
-) -> Tally
-    requires stored { Stored s cuts.now state.now }
-    requires spread { Spread hits.now rows.now (length rows.now) }
-    requires hits_len { length hits.now ≡ hit_words }
-    requires bits_len { (length bits.old ≡ words) × (length ranks.old ≡ words) }
-    ensures ranks_len { length ranks.new ≡ words }
-    ensures counted { result.placed ≡ true → Counted s cuts.now state.now rows.now result.nodes bits.new }
-    ensures some_unplaced { result.placed ≡ false → SomeUnplaced s cuts.now state.now rows.now }
+// How many ids are in use, if each has a place. The first window, which is looked at last, stays
+// marked.
+pub fn survey(stored: Stored, rows: &[u32], hits: &Hits, bits: &mut Bits<WORDS>) -> Option<u32>
+    requires { Spread hits.now.bits.words rows.now (length rows.now) }
+    ensures { MatchOption result (SomeUnplaced stored.entry rows.now)
+        (λ count. Counted stored.entry rows.now count bits.new.words) }
 {
-    let mut total: u32 = 0;
-    let mut w = spread::WINDOWS;
-    while 1 < w {
-        w -= 1;
-        if hit::is_hit(hits, rows.len(), w) {
-            let t = survey_window(s, cuts, state, rows, hits, bits, ranks, w, total);
-            if !t.placed {
-                return t;
-            }
-            total = t.nodes;
+    let mut total = 0;
+    for index in (1..WINDOWS).rev() {
+        let w = Window { index };
+        if hits.is_hit(rows.len(), w) {
+            total = survey_window(stored, rows, hits, bits, w, total)?;
         }
     }
-    survey_window(s, cuts, state, rows, hits, bits, ranks, 0, total)
+    survey_window(stored, rows, hits, bits, Window { index: 0 }, total)
 }

@@ -1,5 +1,5 @@
 -- Parts of a cut table that are mended: one byte, nothing to do, two parts one after the other, a part that was lent. Assumes nothing.
---     missing, stray, cut, blank     one byte, by what it is and whether its edge crosses
+--     changed, byte_mended           one byte, also after a part that is mended
 --     fine_part, none_yet            a part without a fault, and none
 --     joined, spelt                  a part, then the next; ends that are spelt otherwise
 --     few                            no more is counted than there are bytes
@@ -14,7 +14,7 @@ use mathlib.Core.List.{List}
 use lib.Dec.{eqb}
 use lib.ListN.{length, get_or, set, take, drop, length-set, length-drop}
 use lib.Seq.{get_or-set_same, get_or-set_other, length-take-le}
-use borrow.Author.Tests.{eq-eqb, ne_eqb, eqb-true}
+use borrow.Author.Tests.{ne_eqb, eqb-true}
 use Rattle.std.specs.Prelude.{if◌then◌else◌}
 use Rattle.basics.specs.Lists.{count}
 use Rattle.basics.proofs.Test.{lt_or}
@@ -22,11 +22,14 @@ use Rattle.basics.proofs.Search.{count_le, count_none, count_same, count_parts, 
 use Rattle.checks.specs.inner.Search.{Throughout}
 use Rattle.checks.specs.inner.Faults.{number_at}
 use Rattle.patch.specs.declared.Counts.{Counts}
-use Rattle.patch.specs.inner.Mends.{Due, fault_by, fixed_by, faults_before, Mends}
+use Rattle.patch.specs.inner.Mends.{Due, due_byte, counted, fault_by, fixed_by, faults_before, Mends}
 use Rattle.basics.proofs.Part.{back, lent_at, back_long, back_before, back_within, back_after}
 
 abbrev pub counts : ℕ → ℕ → Counts
 counts f c = record { filled = f; cleared = c }
+
+pub no_counts : {c : Counts} → (c.filled ≡ 0) × (c.cleared ≡ 0) → c ≡ counts 0 0
+no_counts z = λ i. record { filled = z.0 i; cleared = z.1 i }
 
 module _ (r : Due) (old : List ℕ) where
   -- a fault and what becomes of a byte hang on that byte alone
@@ -34,12 +37,12 @@ module _ (r : Due) (old : List ℕ) where
   fault_alone new o e = ap (number_at (r.must o)) e
 
   fixed_alone : (new : List ℕ) (o : ℕ) → get_or new o 0 ≡ get_or old o 0 → fixed_by r new o ≡ fixed_by r old o
-  unfolding fixed_by
+  unfolding due_byte
   fixed_alone new o e = rw e refl
 
   -- a byte without a fault stays
   fixed_fine : (o : ℕ) → fault_by r old o ≡ 0 → get_or old o 0 ≡ fixed_by r old o
-  unfolding number_at fixed_by
+  unfolding number_at due_byte
   fixed_fine o = go (r.must o) (eqb (get_or old o 0) 0) refl
     where
       go : (m z : Bool) → eqb (get_or old o 0) 0 ≡ z → ◌≡◌ {A = ℕ} (if m then (if z then 6 else 0) else (if z then 0 else 7)) 0
@@ -114,53 +117,34 @@ module _ {r : Due} where
       most : (n : ℕ) → faults_before r old n e ≤ e
       most n = count_le (λ j. eqb (fault_by r old j) n) e
 
-  -- one byte, with its fault and what it becomes
-  module _ {old : List ℕ} {d : ℕ} (u : d < length old) where
-    changed : {v : ℕ} (k : ℕ) {c : Counts} → v ≡ fixed_by r old d → fault_by r old d ≡ k
-        → c ≡ counts (if eqb k 6 then 1 else 0) (if eqb k 7 then 1 else 0) → Mends r d (d + 1) old (set old d v) c
-    changed {v} k f e z =
-        rw z
-        (record {
-          long = length-set old d v;
-          before = λ o h. get_or-set_other old d o v 0 (λ i. omega arith);
-          within = λ o h i. ap (λ (j : ℕ). get_or (set old d v) j 0) (here o h i) ∙ get_or-set_same old d v 0 u ∙ f
-              ∙ ap (fixed_by r old) (sym (here o h i));
-          after = λ o h. get_or-set_other old d o v 0 (λ i. omega arith);
-          filled = one_more r old d 6 k e;
-          cleared = one_more r old d 7 k e;
-        })
-      where
-        here : (o : ℕ) → d ≤ o → o < d + 1 → o ≡ d
-        here o h i = omega arith
+  -- one byte, by what it becomes and how it counts
+  pub changed : {old : List ℕ} {d v : ℕ} {c : Counts} → d < length old → v ≡ fixed_by r old d → c ≡ counted (fault_by r old d)
+      → Mends r d (d + 1) old (set old d v) c
+  changed {old} {d} {v} u f z =
+      rw z
+      (record {
+        long = length-set old d v;
+        before = λ o h. get_or-set_other old d o v 0 (λ i. omega arith);
+        within = λ o h i. ap (λ (j : ℕ). get_or (set old d v) j 0) (here o h i) ∙ get_or-set_same old d v 0 u ∙ f
+            ∙ ap (fixed_by r old) (sym (here o h i));
+        after = λ o h. get_or-set_other old d o v 0 (λ i. omega arith);
+        filled = one_more r old d 6 _ refl;
+        cleared = one_more r old d 7 _ refl;
+      })
+    where
+      here : (o : ℕ) → d ≤ o → o < d + 1 → o ≡ d
+      here o h i = omega arith
 
-    -- a missing byte is filled in, a stray one is cleared
-    pub missing : {v : ℕ} {c : Counts} → r.must d ≡ true → get_or old d 0 ≡ 0 → v ≡ r.guess d → c ≡ counts 1 0
-        → Mends r d (d + 1) old (set old d v) c
-    unfolding number_at fixed_by
-    missing m e g z = changed 6 (rw (m, eq-eqb _ _ e) g) (rw (m, eq-eqb _ _ e) refl) z
-
-    pub stray : {v : ℕ} {c : Counts} → r.must d ≡ false → (get_or old d 0 ≡ 0 → ⊥) → v ≡ 0 → c ≡ counts 0 1
-        → Mends r d (d + 1) old (set old d v) c
-    unfolding number_at fixed_by
-    stray m e g z = changed 7 (rw m g) (rw (m, ne_eqb _ _ e) refl) z
-
-    -- a good one stays
-    good : {c : Counts} → fault_by r old d ≡ 0 → c ≡ counts 0 0 → Mends r d (d + 1) old old c
-    good e z = fine_part (omega arith) (record { is = λ j l i. ap (fault_by r old) (omega arith) ∙ e }) z
-
-    pub cut : {c : Counts} → r.must d ≡ true → (get_or old d 0 ≡ 0 → ⊥) → c ≡ counts 0 0 → Mends r d (d + 1) old old c
-    unfolding number_at
-    cut m e z = good (rw (m, ne_eqb _ _ e) refl) z
-
-    pub blank : {c : Counts} → r.must d ≡ false → get_or old d 0 ≡ 0 → c ≡ counts 0 0 → Mends r d (d + 1) old old c
-    unfolding number_at
-    blank m e z = good (rw (m, eq-eqb _ _ e) refl) z
+  -- the byte that comes after a part that is mended
+  pub byte_mended : {old mid : List ℕ} {a d v : ℕ} {z c : Counts} → Mends r a d old mid z → d < length mid → v ≡ fixed_by r mid d
+      → c ≡ counted (fault_by r mid d) → Mends r d (d + 1) mid (set mid d v) c
+  byte_mended w u f z = changed u f z
 
 -- two dues that agree in a part on which bytes must be there and, where one must, on what a missing one becomes
 module _ {r t : Due} {a e : ℕ} (must : (o : ℕ) → a ≤ o → o < e → r.must o ≡ t.must o)
     (guess : (o : ℕ) → a ≤ o → o < e → t.must o ≡ true → r.guess o ≡ t.guess o) where
   pub same_due : {old new : List ℕ} {c : Counts} → a ≤ e → Mends r a e old new c → Mends t a e old new c
-  unfolding fixed_by
+  unfolding due_byte
   same_due {old} l w =
       record {
         long = w.long;
@@ -190,7 +174,7 @@ shifted r a = record { must = λ d. r.must (a + d); guess = λ d. r.guess (a + d
 -- n bytes that were lent from a on
 module _ (r : Due) (a n : ℕ) (xs : List ℕ) where
   lent_fixed : (d : ℕ) → d < n → fixed_by (shifted r a) (take n (drop a xs)) d ≡ fixed_by r xs (a + d)
-  unfolding fixed_by
+  unfolding due_byte
   lent_fixed d l = rw (lent_at a n xs d l) refl
 
   lent_faults : (k : ℕ) → faults_before (shifted r a) (take n (drop a xs)) k n + faults_before r xs k a ≡ faults_before r xs k (a + n)

@@ -24,7 +24,7 @@ use Rattle.mending.proofs.Bytes.{by_case, missing_so, cut_so, blank_so, stray_so
 use Rattle.mending.proofs.Tested.{taken_mends}
 use Rattle.checks.specs.inner.Faults.{number_at}
 use Rattle.patch.specs.declared.Counts.{Counts}
-use Rattle.patch.specs.inner.Mends.{Mends, fixed_by, table_due}
+use Rattle.patch.specs.inner.Mends.{Mends, due_byte, fixed_by, table_due}
 
 module _ (s : Sizes) (band : ℕ) (samples : List ℤ) (old : List ℕ) where
   abbrev b : Block
@@ -63,7 +63,7 @@ module _ (s : Sizes) (band : ℕ) (samples : List ℤ) (old : List ℕ) where
         refuses_3 f e n = refused_so f (rw (sized_fits s h, k, eq-eqb _ _ e, ne_eqb _ _ n) refl)
 
   fixed_mended : (o : ℕ) → mended_byte label b o ≡ fixed_by (table_due s label samples) old o
-  unfolding fixed_by
+  unfolding due_byte
   fixed_mended o =
       by_case label b o
       (λ c z. (missing_so label b o c z).1 ∙ sym (rw (c, eq-eqb _ _ z) refl))

@@ -1,71 +1,48 @@
 // The seven bytes of one point, which are lent to their mending: it knows nothing of the table.
-ghost use Rattle.std.specs.Prelude.{◌≡◌, ◌+◌, ◌<◌, length};
-ghost use Rattle.patch.specs.inner.Mends.{Mends, Ends, seven_due};
+ghost use Rattle.std.specs.Prelude.{◌≡◌, ◌<◌, length, is_some, IfSome};
+ghost use Rattle.mending.specs.Mend.{size_at, byte_to};
+ghost use Rattle.checks.specs.inner.Faults.{number_at};
+ghost use Rattle.patch.specs.inner.Mends.{Mends, HasEnds, due_byte, counted, seven_due};
 
 use crate::Counts;
 use interpolation::between;
 
-// Nothing to mend.
-pub fn nothing() -> Counts
-    ensures { result ≡ record { filled = 0; cleared = 0 } }
+// One byte: `far` is the far end of its edge, where that crosses. A missing byte is filled in, a stray one is
+// cleared.
+#[tactic(auto, using(labelling::proofs::Labels::handed), unfolding(mending::specs::Mend::byte_to, crate::specs::inner::Mends::due_byte, checks::specs::inner::Faults::number_at))]
+fn mend_byte(samples: &[i16], byte: &mut u8, own: usize, far: Option<usize>) -> Counts
+    requires { IfSome far (λ f. (own < length samples.now) × (f < length samples.now) × (0 < size_at samples.now own)) }
+    ensures value { byte.new ≡ due_byte (is_some far) (byte_to samples.now own far) byte.old }
+    ensures counts { result ≡ counted (number_at (is_some far) byte.old) }
 {
-    Counts {
-        filled: 0,
-        cleared: 0,
-    }
-}
-
-// The byte in direction d: `must` says that its edge crosses, and then `far` is the edge's far end.
-fn mend_byte(
-    samples: &[i16],
-    bytes: &mut [u8],
-    must: [bool; 7],
-    own: usize,
-    far: [usize; 7],
-    d: usize,
-) -> Counts
-    requires ends { Ends samples.now must own far }
-    requires bytes_len { (length bytes.old ≡ 7) × (d < 7) }
-    ensures { Mends (seven_due samples.now must own far) d (d + 1) bytes.old bytes.new result }
-{
-    if must[d] {
-        if bytes[d] == 0 {
-            bytes[d] = between::byte_between(samples[own], samples[far[d]]);
-            return Counts {
+    match far {
+        Some(end) if *byte == 0 => {
+            *byte = between::byte_between(samples[own], samples[end]);
+            Counts {
                 filled: 1,
                 cleared: 0,
-            };
+            }
         }
-        return nothing();
+        None if *byte != 0 => {
+            *byte = 0;
+            Counts {
+                filled: 0,
+                cleared: 1,
+            }
+        }
+        _ => Counts::default(),
     }
-    if bytes[d] != 0 {
-        bytes[d] = 0;
-        return Counts {
-            filled: 0,
-            cleared: 1,
-        };
-    }
-    nothing()
 }
 
-// All seven.
-pub fn mend_seven(
-    samples: &[i16],
-    bytes: &mut [u8],
-    must: [bool; 7],
-    own: usize,
-    far: [usize; 7],
-) -> Counts
-    requires ends { Ends samples.now must own far }
+// All seven: `ends` are the far ends of the edges that cross.
+pub fn mend_seven(samples: &[i16], bytes: &mut [u8], own: usize, ends: [Option<usize>; 7]) -> Counts
+    requires ends { HasEnds samples.now own ends }
     requires bytes_len { length bytes.old ≡ 7 }
-    ensures { Mends (seven_due samples.now must own far) 0 7 bytes.old bytes.new result }
+    ensures { Mends (seven_due samples.now own ends) 0 7 bytes.old bytes.new result }
 {
-    let mut filled: usize = 0;
-    let mut cleared: usize = 0;
-    for d in 0..7 {
-        let r = mend_byte(samples, bytes, must, own, far, d);
-        filled += r.filled;
-        cleared += r.cleared;
+    let mut total = Counts::default();
+    for (d, &far) in ends.iter().enumerate() {
+        total += mend_byte(samples, &mut bytes[d], own, far);
     }
-    Counts { filled, cleared }
+    total
 }

@@ -1,23 +1,21 @@
 -- The parts of the place call, case by case, and that together they are `locate`. Assumes nothing.
 use Prim.Native.Nat.{ℕ, ◌*◌, ◌-◌, ◌/◌, ◌%◌, ◌≤◌, ◌<◌}
 use native.Mathlib.Omega.{arith}
-use mathlib.Core.Path.{◌≡◌, refl, sym, ap, ◌∙◌}
+use mathlib.Core.Path.{◌≡◌, refl, sym, ap, subst, ◌∙◌}
 use mathlib.Core.Bool.{Bool, true, false, not}
 use mathlib.Core.List.{List}
 use lib.IntN.{ℤ, pos, nat_abs}
 use lib.ListN.{length, get_or}
-use lib.Dec.{eqb}
+use lib.Dec.{T, eqb}
 use borrow.Author.Tests.{eq-eqb, ne_eqb, le-leb, lt-leb, lt-ltb, le-ltb}
-use Rattle.std.specs.Prelude.{if◌then◌else◌}
+use Rattle.std.specs.Prelude.{if◌then◌else◌, Option, Some, None, is_some}
 use Rattle.lattice.specs.declared.Sizes.{Sizes}
-use Rattle.lattice.specs.declared.Near.{Near}
-use Rattle.lattice.specs.declared.Near.TheVariants.{At, Nothing}
 use Rattle.lattice.specs.Axis.{Axis, along_x, along_y, along_z}
 use Rattle.lattice.specs.Counts.{sizes_fit, points}
 use Rattle.lattice.specs.Point.{doubled, kind_of, index_of}
 use Rattle.lattice.specs.Direction.{Code, as_start, is_start, direction, step}
 use Rattle.lattice.specs.Edge.{neighbour, byte_at, edge_byte}
-use Rattle.moving.specs.Violation.{rule1, measured, violates}
+use Rattle.moving.specs.Violation.{rule1, measured, violated, violates}
 use Rattle.moving.specs.State.{is_move, no_move, says_zero}
 use Rattle.moving.proofs.Bytes.{code_move, code_some, none_rests}
 use Rattle.geometry.specs.Place.{lattice_place, rest, cut_place, moved_place, point_place, place_of}
@@ -45,11 +43,22 @@ pub rest_up : (s : Sizes) (p : ℕ) (r : Place) → place_at r ≡ rest s p → 
 unfolding lattice_place
 rest_up s p r e = upward r (λ a. 256 * doubled (kind_of s p) (index_of s p a)) (λ a. ap (λ (f : Axis → ℤ). f a) e)
 
-pub along-up : (s : Sizes) (p c q t : ℕ) → p < points s → Code c → neighbour s p c ≡ At q → t ≤ 256 → (r : Place)
+pub along-up : (s : Sizes) (p c q t : ℕ) → p < points s → Code c → neighbour s p c ≡ Some q → t ≤ 256 → (r : Place)
     → place_at r ≡ along (rest s p) (step c) t → Nonnegative r
 unfolding along
 along-up s p c q t h g e l r is =
     upward r (λ a. (edge_in s p h a c q t g e l).steps) (λ a. ap (λ (f : Axis → ℤ). f a) is ∙ (edge_in s p h a c q t g e l).is)
+
+-- whether a cut violates, as the code asks it
+pub violated_none : (v : Option ℕ) {w : Option ℕ} → v ≡ w → is_some v ≡ false → violated w ≡ false
+unfolding violated
+violated_none None e n = sym (ap violated e)
+violated_none (Some d) e n = absurd (subst T n tt)
+
+pub violated_some : (v : Option ℕ) {w : Option ℕ} → v ≡ w → is_some v ≡ true → violated w ≡ true
+unfolding violated
+violated_some None e n = absurd (subst T (sym n) tt)
+violated_some (Some d) e n = sym (ap violated e)
 
 -- a point with a code
 pub measured-small : (c t : ℕ) → t ≤ 256 → measured c t ≤ 256
@@ -61,11 +70,11 @@ measured-small c t h = go (is_start c)
     go false = omega arith
 
 module _ (s : Sizes) (cuts : List ℕ) (p c : ℕ) where
-  pub moved_none : neighbour s p c ≡ Nothing → unplaced 9 ≡ moved_answer s cuts p c (neighbour s p c)
+  pub moved_none : neighbour s p c ≡ None → unplaced 9 ≡ moved_answer s cuts p c (neighbour s p c)
   unfolding moved_answer
   moved_none e = rw e refl
 
-  module _ (q t : ℕ) (e : neighbour s p c ≡ At q) (byte : t ≡ get_or cuts (edge_byte p c q) 0) where
+  module _ (q t : ℕ) (e : neighbour s p c ≡ Some q) (byte : t ≡ get_or cuts (edge_byte p c q) 0) where
     pub moved-far : violates rule1 c t ≡ false → unplaced 9 ≡ moved_answer s cuts p c (neighbour s p c)
     unfolding moved_answer
     moved-far v = rw (e, rw byte at v) refl
@@ -92,22 +101,22 @@ module _ (s : Sizes) (cuts state : List ℕ) (p : ℕ) where
   unfolding point_answer believable point_place moved_answer reaches
   point-moved c e k = rw (sym e, code_some c k, code_move c k) (go (neighbour s p c))
     where
-      go : (n : Near) → moved_answer s cuts p c n ≡ (if reaches s cuts state p c n then placed (moved_place s cuts p c n) else unplaced 9)
-      go Nothing = refl
-      go (At q) = refl
+      go : (n : Option ℕ) → moved_answer s cuts p c n ≡ (if reaches s cuts state p c n then placed (moved_place s cuts p c n) else unplaced 9)
+      go None = refl
+      go (Some q) = refl
 
 -- a cut
 module _ (s : Sizes) (cuts state : List ℕ) (o : ℕ) where
   abbrev start : ℕ
   start = o / 7
 
-  abbrev end : Near
+  abbrev end : Option ℕ
   end = neighbour s (o / 7) (as_start (o % 7))
 
   own : byte_at (o / 7) (o % 7) ≡ o
   own = omega arith
 
-  pub cut_none : end ≡ Nothing → unplaced 8 ≡ cut_answer s cuts state o
+  pub cut_none : end ≡ None → unplaced 8 ≡ cut_answer s cuts state o
   unfolding cut_answer stands stands_to
   cut_none e = rw e refl
 
@@ -115,21 +124,21 @@ module _ (s : Sizes) (cuts state : List ℕ) (o : ℕ) where
   unfolding cut_answer stands stands_to
   cut-absent z = go end
     where
-      go : (n : Near) → unplaced 8 ≡ (if stands_to s cuts state (o / 7) (o % 7) n then placed (cut_place s cuts (o / 7) (o % 7)) else unplaced 8)
-      go Nothing = refl
-      go (At q) = rw (own, eq-eqb _ _ z) refl
+      go : (n : Option ℕ) → unplaced 8 ≡ (if stands_to s cuts state (o / 7) (o % 7) n then placed (cut_place s cuts (o / 7) (o % 7)) else unplaced 8)
+      go None = refl
+      go (Some q) = rw (own, eq-eqb _ _ z) refl
 
   pub cut-starts : says_zero (get_or state (o / 7) 0) ≡ true → unplaced 8 ≡ cut_answer s cuts state o
   unfolding cut_answer stands stands_to
   cut-starts n = go end (eqb (get_or cuts (byte_at (o / 7) (o % 7)) 0) 0) refl
     where
-      go : (n : Near) (z : Bool) → eqb (get_or cuts (byte_at (o / 7) (o % 7)) 0) 0 ≡ z
+      go : (n : Option ℕ) (z : Bool) → eqb (get_or cuts (byte_at (o / 7) (o % 7)) 0) 0 ≡ z
           → unplaced 8 ≡ (if stands_to s cuts state (o / 7) (o % 7) n then placed (cut_place s cuts (o / 7) (o % 7)) else unplaced 8)
-      go Nothing z e = refl
-      go (At q) true e = rw e refl
-      go (At q) false e = rw (e, n) refl
+      go None z e = refl
+      go (Some q) true e = rw e refl
+      go (Some q) false e = rw (e, n) refl
 
-  module _ (q : ℕ) (e : end ≡ At q) (b : get_or cuts o 0 ≡ 0 → ⊥) (n : says_zero (get_or state (o / 7) 0) ≡ false) where
+  module _ (q : ℕ) (e : end ≡ Some q) (b : get_or cuts o 0 ≡ 0 → ⊥) (n : says_zero (get_or state (o / 7) 0) ≡ false) where
     pub cut-ends : says_zero (get_or state q 0) ≡ true → unplaced 8 ≡ cut_answer s cuts state o
     unfolding cut_answer stands stands_to
     cut-ends m = rw (e, own, ne_eqb _ _ b, n, m) refl

@@ -2,8 +2,8 @@
 use Prim.Native.Nat.{ℕ, ◌≤◌, ◌<◌}
 use native.Mathlib.Omega.{arith}
 use mathlib.Core.Path.{◌≡◌, sym, ◌∙◌}
+use Rattle.std.proofs.Common.{Option}
 use Rattle.lattice.specs.declared.Sizes.{Sizes}
-use Rattle.lattice.specs.declared.Near.{Near}
 use Rattle.lattice.specs.declared.Site.{Site}
 use Rattle.lattice.specs.Counts.{Sized, points}
 use Rattle.lattice.specs.Edge.{near, neighbour}
@@ -15,7 +15,7 @@ use Rattle.geometry.specs.Place.{lattice_place, rest}
 
 module _ (s : Sizes) (p : ℕ) (q : Site) (is : q ≡ site_of s p) where
   -- what a search from the site found
-  pub site_leads : (c : ℕ) {n m : Near} → n ≡ near s q.kind (index q) c → n ≡ m → neighbour s p c ≡ m
+  pub site_leads : (c : ℕ) {n m : Option ℕ} → n ≡ near s q.kind (index q) c → n ≡ m → neighbour s p c ≡ m
   site_leads c e f = sym (asked s p is (λ k i. near s k i c)) ∙ sym e ∙ f
 
   pub site_rest : lattice_place q.kind (index q) ≡ rest s p

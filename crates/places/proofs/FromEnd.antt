@@ -6,9 +6,8 @@ use mathlib.Core.Bool.{Bool, true, false}
 use mathlib.Core.List.{List}
 use lib.IntN.{pos, ◌+ℤ◌, ◌*ℤ◌}
 use lib.ListN.{get_or}
-use Rattle.std.specs.Prelude.{if◌then◌else◌}
+use Rattle.std.specs.Prelude.{if◌then◌else◌, Some}
 use Rattle.lattice.specs.declared.Sizes.{Sizes}
-use Rattle.lattice.specs.declared.Near.TheVariants.{At}
 use Rattle.lattice.specs.Axis.{Axis}
 use Rattle.lattice.specs.Counts.{points}
 use Rattle.lattice.specs.Point.{doubled, kind_of, index_of}
@@ -25,9 +24,9 @@ pub cut_along_law : (s : Sizes) (cuts : List ℕ) (p d : ℕ) → cut_place s cu
 unfolding cut_place along
 cut_along_law s cuts p d = refl
 
-module _ (s : Sizes) (cuts : List ℕ) (p c q : ℕ) (h : p < points s) (g : Code c) (e : neighbour s p c ≡ At q)
+module _ (s : Sizes) (cuts : List ℕ) (p c q : ℕ) (h : p < points s) (g : Code c) (e : neighbour s p c ≡ Some q)
     (small : get_or cuts (edge_byte p c q) 0 ≤ 256) where
-  pub moved_along : moved_place s cuts p c (At q) ≡ along (rest s p) (step c) (measured c (get_or cuts (edge_byte p c q) 0))
+  pub moved_along : moved_place s cuts p c (Some q) ≡ along (rest s p) (step c) (measured c (get_or cuts (edge_byte p c q) 0))
   unfolding moved_place along cut_place step measured edge_byte lattice_place
   moved_along = λ t a. go (is_start c) refl a t
     where

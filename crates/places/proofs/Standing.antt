@@ -2,9 +2,9 @@
 use Prim.Native.Nat.{ℕ, ◌+◌, ◌*◌, ◌-◌, ◌^◌, ◌≤◌, ◌<◌}
 use native.Mathlib.Omega.{arith}
 use mathlib.Core.Path.{◌≡◌, sym, ap, subst, ◌∙◌}
+use mathlib.Core.Bool.{true, false}
 use lib.IntN.{ℤ, pos, ◌+ℤ◌, ◌-ℤ◌, ◌*ℤ◌}
 use lib.Signed.{mag}
-use borrow.Author.Tests.{le-leb, lt-leb}
 use Rattle.lattice.specs.declared.Kind.{Kind}
 use Rattle.lattice.specs.Axis.{Axis}
 use Rattle.lattice.specs.Point.{doubled}
@@ -41,10 +41,10 @@ pub start_along : (f : Axis → ℤ) (d t : ℕ) → d < 7 → along f (step (d 
 start_along f d t h = λ i. along f (λ a. start_step d h a i) t
 
 -- t measured from a point that is the start of its edge, or the end
-pub measured_start : (c t : ℕ) → c ≤ 7 → measured c t ≡ t
-unfolding measured is_start
-measured_start c t h = simp (le-leb _ _ h)
+pub measured_start : (c t : ℕ) → is_start c ≡ true → measured c t ≡ t
+unfolding measured
+measured_start c t h = simp h
 
-pub measured_end : (c t : ℕ) → 7 < c → measured c t ≡ 256 - t
-unfolding measured is_start
-measured_end c t h = simp (lt-leb _ _ h)
+pub measured_end : (c t : ℕ) → is_start c ≡ false → measured c t ≡ 256 - t
+unfolding measured
+measured_end c t h = simp h

@@ -3,3 +3,6 @@
 
 pub mod locate;
 pub mod points;
+pub mod stored;
+
+pub use stored::Stored;

@@ -4,32 +4,36 @@
 
 mod joint;
 
-ghost use Rattle.std.specs.Prelude.{◌≡◌, true, false, ℕ, ◌<◌, ◌≤◌, pos, length, get_or};
-ghost use Rattle.lattice.specs.inner.Site.{most};
+ghost use Rattle.std.specs.Prelude.{◌≡◌, true, false, ℕ, ◌-◌, ◌<◌, ◌≤◌, pos, length, get_or};
 ghost use Rattle.ranges.specs.inner.Blank.{Blank};
 ghost use Rattle.labelling.specs.inner.Labels.{has_label};
 
 use labelling::label;
 
-pub fn lesser(a: usize, b: usize) -> usize
-    ensures { (result ≤ a) × (result ≤ b) × ((k : ℕ) → result ≤ k → k < a → b ≤ k) }
+// What a table has of the range from one entry on and before another.
+fn there<T>(table: &[T], from: usize, to: usize) -> &[T]
+    ensures { (d : T) (k : ℕ) → from ≤ k → k < to → get_or table.now k d ≡ get_or result.now (k - from) d }
 {
-    if a < b { a } else { b }
+    let end = to.min(table.len());
+    &table[from.min(end)..end]
 }
 
-// All bytes from one on and before another are zero, byte by byte: the highest is.
+// All bytes are zero, byte by byte: the highest is.
+fn is_highest_zero(bytes: &[u8]) -> bool
+    ensures { result ≡ true → Blank bytes.now 0 (length bytes.now) }
+{
+    let mut top: u8 = 0;
+    for &byte in bytes {
+        top = top.max(byte);
+    }
+    top == 0
+}
+
+// All bytes from one on and before another are zero: the highest is.
 pub fn are_zero(bytes: &[u8], from: usize, to: usize) -> bool
     ensures { result ≡ true → Blank bytes.now from to }
 {
-    let end = lesser(to, bytes.len());
-    let mut top: u8 = 0;
-    for o in from..end {
-        let byte = bytes[o];
-        if top < byte {
-            top = byte;
-        }
-    }
-    top == 0
+    is_highest_zero(there(bytes, from, to))
 }
 
 // All bytes from one on and before another are zero: eight together by the joint test, and what is
@@ -37,66 +41,32 @@ pub fn are_zero(bytes: &[u8], from: usize, to: usize) -> bool
 pub fn is_blank(bytes: &[u8], from: usize, to: usize) -> bool
     ensures { result ≡ true → Blank bytes.now from to }
 {
-    let end = lesser(to, bytes.len());
-    if end <= from {
-        return true;
-    }
-    let eights = (end - from) / 8;
+    let (eights, rest) = there(bytes, from, to).as_chunks::<8>();
     let mut seen: u64 = 0;
-    for k in 0..eights {
-        seen = seen | joint::eight(bytes, from + 8 * k);
+    for eight in eights {
+        seen |= joint::eight(eight);
     }
-    if seen != 0 {
-        return false;
-    }
-    are_zero(bytes, from + 8 * eights, to)
+    seen == 0 && is_highest_zero(rest)
 }
 
-// The highest sample from one on and before another, or 0 if none is above zero: where it is not
-// plus, by whatever band, none is.
-fn highest(samples: &[i16], from: usize, to: usize) -> i16
-    requires { length samples.now ≤ most }
-    ensures { (band : ℕ) → has_label true band result ≡ false
-        → (p : ℕ) → from ≤ p → p < to → has_label true band (get_or samples.now p (pos 0)) ≡ false }
+// The highest sample, or 0 if none is above zero; or the lowest, or 0 if none is below zero. Where it is not
+// plus, or not minus, by whatever band, none is.
+fn outermost(plus: bool, samples: &[i16]) -> i16
+    ensures { (band : ℕ) → has_label plus band result ≡ false
+        → (p : ℕ) → has_label plus band (get_or samples.now p (pos 0)) ≡ false }
 {
-    let end = lesser(to, samples.len());
-    let mut most: i16 = 0;
-    for p in from..end {
-        let x = samples[p];
-        if most < x {
-            most = x;
-        }
+    let mut seen: i16 = 0;
+    for &x in samples {
+        seen = if plus { seen.max(x) } else { seen.min(x) };
     }
-    most
-}
-
-// The lowest sample from one on and before another, or 0 if none is below zero: where it is not
-// minus, by whatever band, none is.
-fn lowest(samples: &[i16], from: usize, to: usize) -> i16
-    requires { length samples.now ≤ most }
-    ensures { (band : ℕ) → has_label false band result ≡ false
-        → (p : ℕ) → from ≤ p → p < to → has_label false band (get_or samples.now p (pos 0)) ≡ false }
-{
-    let end = lesser(to, samples.len());
-    let mut least: i16 = 0;
-    for p in from..end {
-        let x = samples[p];
-        if x < least {
-            least = x;
-        }
-    }
-    least
+    seen
 }
 
 // Some sample from one on and before another is plus by the band, or some is minus: the outermost
 // one is.
 pub fn has_some(plus: bool, band: u32, samples: &[i16], from: usize, to: usize) -> bool
-    requires { length samples.now ≤ most }
     ensures { result ≡ false
         → (p : ℕ) → from ≤ p → p < to → has_label plus band (get_or samples.now p (pos 0)) ≡ false }
 {
-    if plus {
-        return label::has_label(plus, band, highest(samples, from, to));
-    }
-    label::has_label(plus, band, lowest(samples, from, to))
+    label::has_label(plus, band, outermost(plus, there(samples, from, to)))
 }

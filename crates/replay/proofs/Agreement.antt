@@ -13,8 +13,7 @@ use Rattle.lattice.specs.declared.Sizes.{Sizes}
 use Rattle.filling.specs.declared.Filled.{Filled}
 use Rattle.filling.specs.declared.Placed.{Placed}
 use Rattle.filling.specs.Located.{locate}
-use Rattle.blockfile.specs.declared.Read.{Read}
-use Rattle.blockfile.specs.Format.{four_at, file_sizes, samples_from}
+use Rattle.blockfile.specs.Format.{Read, four_at, file_sizes, samples_from}
 use Rattle.replay.specs.declared.Lengths.{Lengths}
 use Rattle.replay.specs.declared.Filed.{Filed}
 use Rattle.comparison.specs.program.Same.{same, ids_from, same_sample, same_samples, same_answer}

@@ -2,9 +2,9 @@
 use Prim.Native.Nat.{ℕ, suc, ◌+◌, ◌*◌, ◌-◌, ◌<◌, ◌≤◌}
 use native.Mathlib.Omega.{arith}
 use mathlib.Core.Path.{◌≡◌, refl, ap₂, ◌∙◌}
-use mathlib.Core.Bool.{Bool, true, false}
+use mathlib.Core.Bool.{Bool, true, false, ◌&&◌}
 use mathlib.Core.List.{List}
-use lib.ListN.{length, take, drop}
+use lib.ListN.{length}
 use lib.Dec.{eqb}
 use borrow.Author.Tests.{eq-eqb, ne_eqb}
 use Rattle.lattice.specs.declared.Sizes.{Sizes}
@@ -23,12 +23,12 @@ use Rattle.replay.specs.program.Questions.{
   places_agree_with,
   places_agree,
 }
-use Rattle.replay.proofs.Composed.{part_is}
 
--- the last test decides
-pub last_coordinate : (a b : Placed) → a.number ≡ b.number → a.x ≡ b.x → a.y ≡ b.y → eqb a.z b.z ≡ same_place a b
+-- places compared by the library
+pub placed_same : (a b : Placed)
+    → (eqb a.number b.number && (eqb a.x b.x && (eqb a.y b.y && eqb a.z b.z))) ≡ same_place a b
 unfolding same_place
-last_coordinate a b n x y = simp (eq-eqb a.number b.number n, eq-eqb a.x b.x x, eq-eqb a.y b.y y)
+placed_same a b = refl
 
 -- one question
 pub answer_is : (body cuts state : List ℕ) (number i : ℕ) {nx ny nz id : ℕ} {p q : Placed} {r : Bool}
@@ -73,12 +73,7 @@ module _ (head body : List ℕ) (a : Asked) (e : a ≡ asked_of head) where
   unfolding places_agree
   no_questions ne = rw (← e) (simp (ne_eqb (length body) (questions_at a + 10 * a.questions) ne))
 
-  pub questions_decide : {g : Bool} → length body ≡ questions_at a + 10 * a.questions
-      → g
-      ≡ all_answered body a.number (file_sizes body) (take (3 + a.cuts - 3) (drop 3 body))
-      (take (3 + a.cuts + a.state - (3 + a.cuts)) (drop (3 + a.cuts) body)) (questions_at a) a.questions
+  pub questions_decide : {g : Bool} → length body ≡ questions_at a + 10 * a.questions → g ≡ places_agree_with body a
       → g ≡ places_agree head body
-  unfolding places_agree places_agree_with
-  questions_decide f t =
-      rw (← e, ← part_is body 3 a.cuts, ← part_is body (3 + a.cuts) a.state)
-      (simp (eq-eqb (length body) (questions_at a + 10 * a.questions) f) t)
+  unfolding places_agree
+  questions_decide f t = rw (← e) (simp (eq-eqb (length body) (questions_at a + 10 * a.questions) f) t)

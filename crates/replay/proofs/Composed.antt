@@ -1,8 +1,8 @@
 -- A recorded call, replayed and compared, by the parts that the code does one after the other. Assumes nothing.
 use Prim.Native.Nat.{ℕ, ◌+◌, ◌-◌}
 use native.Mathlib.Omega.{arith}
-use mathlib.Core.Path.{◌≡◌, refl, ap, ◌∙◌}
-use mathlib.Core.Bool.{Bool, true, false}
+use mathlib.Core.Path.{◌≡◌, refl, sym, ap, ◌∙◌}
+use mathlib.Core.Bool.{Bool, true, false, not}
 use mathlib.Core.List.{List, ◌++◌, append-nil}
 use lib.IntN.{ℤ}
 use lib.ListN.{length, take, drop, replicate, drop_of_length-le}
@@ -37,6 +37,11 @@ written body n before l e =
     e
     ∙ (sets_front before (samples_from body 3 n) (samples_long body 3 n) (omega arith)
     ∙ (ap (λ (r : List ℤ). samples_from body 3 n ++ r) (drop_of_length-le before {i = n} (omega arith)) ∙ append-nil _))
+
+-- a test that the code asks the other way round
+pub not_so : (b : Bool) → not b ≡ true → b ≡ false
+not_so true e = sym e
+not_so false e = refl
 
 -- a part that the code takes by its two ends
 pub part_is : (bytes : List ℕ) (a n : ℕ) → take (a + n - a) (drop a bytes) ≡ take n (drop a bytes)

@@ -3,7 +3,6 @@ use Prim.Native.Nat.{ℕ, ◌+◌, ◌*◌, ◌≤◌}
 use mathlib.Core.Path.{◌≡◌}
 use mathlib.Core.Bool.{true}
 use lib.Dec.{eqb, leb, eqb→eq, leb→le}
-use borrow.Author.Tests.{eq-eqb, le-leb}
 use Rattle.basics.proofs.Test.{&&-l, &&-r, true_T}
 use Rattle.lattice.specs.Counts.{most_points}
 use Rattle.replay.specs.declared.Lengths.{Lengths}
@@ -33,16 +32,3 @@ it_fits l body samples state rows e =
       row_room = leb→le _ _ (&&-l (leb l.rows rows) _ t5);
       id_room = leb→le _ _ (&&-r (leb l.rows rows) _ t5);
     }
-
--- the last test decides
-pub last_fits : (l : Lengths) (body samples state rows : ℕ) → body ≡ ids_at l + 2 * l.ids → l.samples ≤ most_points → l.samples ≤ samples
-    → l.state ≤ state → l.rows ≤ rows → leb l.ids l.rows ≡ fits l body samples state rows
-unfolding fits
-last_fits l body samples state rows e a b c d =
-    simp (
-      eq-eqb body (ids_at l + 2 * l.ids) e,
-      le-leb l.samples most_points a,
-      le-leb l.samples samples b,
-      le-leb l.state state c,
-      le-leb l.rows rows d,
-    )

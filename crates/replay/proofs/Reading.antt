@@ -7,34 +7,10 @@ use lib.IntN.{ℤ}
 use lib.ListN.{length, take, drop, replicate}
 use lib.Dec.{eqb, leb, eqb→eq, leb→le}
 use Rattle.basics.proofs.Test.{&&-l, &&-r, true_T, All₃}
-use Rattle.blockfile.specs.declared.Read.{Read}
 use Rattle.blockfile.specs.Format.{one_at, samples_from, read}
 use Rattle.comparison.specs.program.Same.{same, same_samples}
 use Rattle.replay.specs.declared.Filed.{Filed}
-use Rattle.replay.specs.program.Files.{
-  filed_of,
-  stated_read,
-  same_sizes,
-  same_read,
-  filed_fits,
-  reread,
-  read_agrees,
-  file_agrees,
-}
-
--- conjunctions of three tests
-pub sizes_are : (a b : Read) → All₃ (same_sizes a b) (eqb a.nx b.nx) (eqb a.ny b.ny) (eqb a.nz b.nz)
-unfolding same_sizes
-sizes_are a b = record { is = refl }
-
-pub answers_are : (a b : Read) → All₃ (same_read a b) (eqb a.number b.number) (eqb a.end b.end) (same_sizes a b)
-unfolding same_read
-answers_are a b = record { is = refl }
-
-pub fitting_is : (f : Filed) (body samples cuts : ℕ)
-    → All₃ (filed_fits f body samples cuts) (eqb body (f.file + 2 * f.samples + f.cuts)) (leb f.samples samples) (leb f.cuts cuts)
-unfolding filed_fits
-fitting_is f body samples cuts = record { is = refl }
+use Rattle.replay.specs.program.Files.{filed_of, stated_read, same_read, filed_fits, reread, read_agrees, file_agrees}
 
 pub record Fitting (f : Filed) (body samples cuts : ℕ) : Type 0 where
   pub whole : body ≡ f.file + 2 * f.samples + f.cuts

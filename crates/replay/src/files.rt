@@ -1,110 +1,104 @@
 // Block files, read again.
-ghost use Rattle.std.specs.Prelude.{◌≡◌, ◌+◌, ◌*◌, ◌<◌, ◌≤◌, length, take, drop};
-ghost use Rattle.comparison.specs.program.Same.{same};
-ghost use Rattle.replay.specs.program.Files.{filed_of, stated_read, same_sizes, same_read, filed_fits, reread, read_agrees, file_agrees};
+ghost use Rattle.std.specs.Prelude.{◌≡◌, ◌+◌, ◌*◌, ◌≤◌, true, false, length, MatchOption};
+ghost use Rattle.blockfile.specs.inner.Answer.{answer_of};
+ghost use Rattle.replay.specs.program.Files.{filed_of, stated_read, same_read, filed_fits, reread, read_agrees, file_agrees};
 
 use crate::Filed;
-use blockfile::{Read, file, numbers};
+use blockfile::{Loaded, file, numbers};
 use comparison::tables;
+use lattice::Sizes;
+use refusals::Refusal;
 
-fn filed_of(head: &[u8; 48]) -> Filed
-    ensures value { result ≡ filed_of head.now }
-    ensures file_bound { (result.file < 4294967296) × (result.samples < 4294967296) × (result.cuts < 4294967296) }
+// What a head states of a file, if the body has all its parts and nothing else and there is room to
+// read the file again.
+#[tactic(auto, unfolding(crate::specs::program::Files::filed_of, crate::specs::program::Files::filed_fits))]
+fn fitting(head: &[u8; 48], body: usize, samples: usize, cuts: usize) -> Option<Filed>
+    ensures { MatchOption result (filed_fits (filed_of head.now) body samples cuts ≡ false)
+        (λ f. (f ≡ filed_of head.now) × (filed_fits f body samples cuts ≡ true)) }
 {
-    Filed {
-        file: numbers::four_at(head, 8),
-        samples: numbers::four_at(head, 12),
-        cuts: numbers::four_at(head, 16),
-        limit: numbers::four_at(head, 20),
+    let filed = Filed {
+        file: numbers::four_at(head, 8) as usize,
+        samples: numbers::four_at(head, 12) as usize,
+        cuts: numbers::four_at(head, 16) as usize,
+        limit: numbers::four_at(head, 20) as usize,
+    };
+    let parts = filed.file + 2 * filed.samples + filed.cuts;
+    if body == parts && filed.samples <= samples && filed.cuts <= cuts {
+        Some(filed)
+    } else {
+        None
     }
 }
 
-// The answer that the record states.
-fn stated_read(head: &[u8; 48]) -> Read
-    ensures { result ≡ stated_read head.now }
+// A head states this number, these sizes and this end.
+#[tactic(auto, unfolding(crate::specs::program::Files::stated_read, crate::specs::program::Files::same_read, crate::specs::program::Files::same_sizes))]
+fn states(head: &[u8; 48], number: u32, sizes: Sizes, end: usize) -> bool
+    ensures { result ≡ same_read (record { number = number; nx = sizes.nx; ny = sizes.ny; nz = sizes.nz; end = end }) (stated_read head.now) }
 {
-    Read {
-        number: numbers::four_at(head, 32) as u32,
-        nx: numbers::two_at(head, 40),
-        ny: numbers::two_at(head, 42),
-        nz: numbers::two_at(head, 44),
-        end: numbers::four_at(head, 36),
+    number == numbers::four_at(head, 32)
+        && end == numbers::four_at(head, 36) as usize
+        && sizes.nx == usize::from(numbers::two_at(head, 40))
+        && sizes.ny == usize::from(numbers::two_at(head, 42))
+        && sizes.nz == usize::from(numbers::two_at(head, 44))
+}
+
+// A file or a refusal is what the head states.
+#[tactic(auto, unfolding(blockfile::specs::inner::Answer::answer_of, blockfile::specs::Format::refusal))]
+fn is_stated(answer: Result<Loaded, Refusal>, head: &[u8; 48]) -> bool
+    ensures { result ≡ same_read (answer_of answer) (stated_read head.now) }
+{
+    match answer {
+        Ok(file) => states(head, 0, file.lattice.sizes, file.end),
+        Err(refusal) => {
+            let none = Sizes {
+                nx: 0,
+                ny: 0,
+                nz: 0,
+            };
+            states(head, refusal.number(), none, 0)
+        }
     }
 }
 
-fn has_same_sizes(a: Read, b: Read) -> bool
-    ensures { result ≡ same_sizes a b }
-{
-    if a.nx != b.nx {
-        return false;
-    }
-    if a.ny != b.ny {
-        return false;
-    }
-    a.nz == b.nz
+// A recorded file whose body has all its parts.
+#[derive(Clone, Copy)]
+struct Recorded<'a> {
+    head: &'a [u8; 48],
+    body: &'a [u8],
+    filed: Filed,
+    ghost whole: { length body.now ≡ filed.file + 2 * filed.samples + filed.cuts },
 }
 
-fn is_same_read(a: Read, b: Read) -> bool
-    ensures { result ≡ same_read a b }
-{
-    if a.number != b.number {
-        return false;
+impl<'a> Recorded<'a> {
+    // Lends the cut table as it was lent and reads the file.
+    fn read_again(self, samples: &mut [i16], cuts: &mut [u8]) -> Result<Loaded, Refusal>
+        requires { length cuts.old ≡ self.filed.cuts }
+        ensures value { answer_of result ≡ (reread self.entry.head.now self.entry.body.now self.entry.filed samples.old).answer }
+        ensures samples_after { samples.new ≡ (reread self.entry.head.now self.entry.body.now self.entry.filed samples.old).samples }
+        ensures cuts_after { cuts.new ≡ (reread self.entry.head.now self.entry.body.now self.entry.filed samples.old).cuts }
+    {
+        cuts.fill(self.head[28]);
+        let end = self.filed.file;
+        file::read(&self.body[..end], self.filed.limit, samples, cuts)
     }
-    if a.end != b.end {
-        return false;
-    }
-    has_same_sizes(a, b)
-}
 
-// The body has all its parts and nothing else, and there is room to read the file again.
-fn is_fitting(f: Filed, body: usize, samples: usize, cuts: usize) -> bool
-    requires { (f.file < 4294967296) × (f.samples < 4294967296) × (f.cuts < 4294967296) }
-    ensures { result ≡ filed_fits f body samples cuts }
-{
-    if body != f.file + 2 * f.samples + f.cuts {
-        return false;
+    // The answer and the tables are those that the record states.
+    fn is_agreed(self, samples: &mut [i16], cuts: &mut [u8]) -> bool
+        requires { (length samples.old ≡ self.filed.samples) × (length cuts.old ≡ self.filed.cuts) }
+        ensures { result ≡ read_agrees self.entry.head.now self.entry.body.now self.entry.filed samples.old }
+    {
+        let answer = self.read_again(samples, cuts);
+        let body = self.body;
+        if !is_stated(answer, self.head) {
+            return false;
+        }
+        if !tables::same_samples(samples, body, self.filed.file) {
+            return false;
+        }
+        let first = self.filed.file + 2 * self.filed.samples;
+        let end = first + self.filed.cuts;
+        cuts[..] == body[first..end]
     }
-    if samples < f.samples {
-        return false;
-    }
-    f.cuts <= cuts
-}
-
-// Lends the cut table as it was lent and reads the file.
-fn read_again(f: Filed, head: &[u8; 48], body: &[u8], samples: &mut [i16], cuts: &mut [u8]) -> Read
-    requires { (f.file ≤ length body.now) × (length cuts.old ≡ f.cuts) }
-    ensures value { result ≡ (reread head.now body.now f samples.old).answer }
-    ensures samples_after { samples.new ≡ (reread head.now body.now f samples.old).samples }
-    ensures cuts_after { cuts.new ≡ (reread head.now body.now f samples.old).cuts }
-{
-    tables::lend_bytes(cuts, head[28]);
-    let end = f.file;
-    file::read(&body[..end], f.limit, samples, cuts)
-}
-
-// The cut table is the one that the record states.
-fn has_cuts(f: Filed, body: &[u8], cuts: &[u8]) -> bool
-    requires { f.file + 2 * f.samples + f.cuts ≤ length body.now }
-    ensures { result ≡ same cuts.now (take f.cuts (drop (f.file + 2 * f.samples) body.now)) }
-{
-    let first = f.file + 2 * f.samples;
-    let end = first + f.cuts;
-    tables::same_bytes(cuts, &body[first..end])
-}
-
-// The answer and the tables are those that the record states.
-fn is_agreed(f: Filed, head: &[u8; 48], body: &[u8], samples: &mut [i16], cuts: &mut [u8]) -> bool
-    requires { (length body.now ≡ f.file + 2 * f.samples + f.cuts) × (length samples.old ≡ f.samples) × (length cuts.old ≡ f.cuts) }
-    ensures { result ≡ read_agrees head.now body.now f samples.old }
-{
-    let answer = read_again(f, head, body, samples, cuts);
-    if !is_same_read(answer, stated_read(head)) {
-        return false;
-    }
-    if !tables::same_samples(samples, body, f.file) {
-        return false;
-    }
-    has_cuts(f, body, cuts)
 }
 
 // Reads a recorded file again into the lent tables: true exactly if reading does what the record
@@ -112,11 +106,13 @@ fn is_agreed(f: Filed, head: &[u8; 48], body: &[u8], samples: &mut [i16], cuts: 
 pub fn agrees(head: &[u8; 48], body: &[u8], samples: &mut [i16], cuts: &mut [u8]) -> bool
     ensures { result ≡ file_agrees head.now body.now samples.old (length cuts.old) }
 {
-    let f = filed_of(head);
-    if !is_fitting(f, body.len(), samples.len(), cuts.len()) {
-        return false;
+    match fitting(head, body.len(), samples.len(), cuts.len()) {
+        None => false,
+        Some(filed) => {
+            let file = Recorded { head, body, filed };
+            let n = filed.samples;
+            let k = filed.cuts;
+            file.is_agreed(&mut samples[..n], &mut cuts[..k])
+        }
     }
-    let n = f.samples;
-    let k = f.cuts;
-    is_agreed(f, head, body, &mut samples[..n], &mut cuts[..k])
 }

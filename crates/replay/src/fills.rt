@@ -1,106 +1,132 @@
 // Calls of filling, replayed.
-ghost use Rattle.std.specs.Prelude.{◌≡◌, ◌+◌, ◌*◌, ◌≤◌, length, replicate};
+ghost use Rattle.std.specs.Prelude.{◌≡◌, ◌+◌, ◌*◌, ◌≤◌, true, false, length, MatchOption};
 ghost use Rattle.lattice.specs.Counts.{most_points};
-ghost use Rattle.filling.specs.Fill.{fill};
-ghost use Rattle.blockfile.specs.Format.{one_at, four_at, samples_from};
-ghost use Rattle.replay.specs.program.Fills.{cuts_at, state_at, ids_at, block_with, replayed, stated_tables, agrees_with, fill_agrees};
+ghost use Rattle.replay.specs.program.Fills.{lengths_of, answer_of, fits, ids_at, replayed, stated_tables, agrees_with, fill_agrees};
 
-use crate::{Lengths, heads, wide};
+use crate::Lengths;
 use blockfile::{numbers, samples as sampled};
-use comparison::{answers, tables};
+use comparison::tables;
 use filling::Filled;
 
-// The tables as they were lent to the recorded call.
-fn lend(
-    l: Lengths,
+// No block has more lattice points.
+const MOST_POINTS: usize = 536769;
+
+// The lengths that a head states, if the body has all its parts and nothing else and there is room to
+// replay the call.
+#[tactic(auto, unfolding(crate::specs::program::Fills::lengths_of, crate::specs::program::Fills::fits))]
+fn fitting(
     head: &[u8; 48],
-    body: &[u8],
-    samples: &mut [i16],
-    state: &mut [u8],
-    rows: &mut [u32],
-)
-    requires samples_le_most_points { (l.samples ≤ most_points) × (cuts_at l ≤ length body.now) }
-    requires samples_len { (length samples.old ≡ l.samples) × (length state.old ≡ l.state) × (length rows.old ≡ l.rows) }
-    ensures samples_after { samples.new ≡ samples_from body.now 3 l.samples }
-    ensures state_after { state.new ≡ replicate l.state (one_at head.now 28) }
-    ensures rows_after { rows.new ≡ replicate l.rows (four_at head.now 28) }
+    body: usize,
+    samples: usize,
+    state: usize,
+    rows: usize,
+) -> Option<Lengths>
+    ensures { MatchOption result (fits (lengths_of head.now) body samples state rows ≡ false)
+        (λ l. (l ≡ lengths_of head.now) × (fits l body samples state rows ≡ true)) }
 {
-    sampled::write_samples(body, l.samples, samples);
-    tables::lend_bytes(state, head[28]);
-    tables::lend_numbers(rows, numbers::four_at(head, 28) as u32);
-}
-
-// Fills the block of the sizes and cut bytes that the body holds, with band 0.
-fn refill(l: Lengths, body: &[u8], samples: &[i16], state: &mut [u8], rows: &mut [u32]) -> Filled
-    requires { state_at l ≤ length body.now }
-    ensures value { result ≡ (fill 0 (block_with body.now l samples.now) state.old rows.old).answer }
-    ensures state_after { state.new
-        ≡ (fill 0 (block_with body.now l samples.now) state.old rows.old).state }
-    ensures rows_after { rows.new
-        ≡ (fill 0 (block_with body.now l samples.now) state.old rows.old).rows }
-{
-    let first = 3 + 2 * l.samples;
-    let end = first + l.cuts;
-    let x = wide(body[0]);
-    let y = wide(body[1]);
-    let z = wide(body[2]);
-    yakuemi::yakuemi_fill(x, y, z, 0, samples, &body[first..end], state, rows)
-}
-
-// Lends the tables as they were lent and fills the block.
-fn replay(
-    l: Lengths,
-    head: &[u8; 48],
-    body: &[u8],
-    samples: &mut [i16],
-    state: &mut [u8],
-    rows: &mut [u32],
-) -> Filled
-    requires samples_le_most_points { (l.samples ≤ most_points) × (ids_at l + 2 * l.ids ≡ length body.now) }
-    requires samples_len { (length samples.old ≡ l.samples) × (length state.old ≡ l.state) × (length rows.old ≡ l.rows) }
-    ensures value { result ≡ (replayed head.now body.now l).answer }
-    ensures state_after { state.new ≡ (replayed head.now body.now l).state }
-    ensures rows_after { rows.new ≡ (replayed head.now body.now l).rows }
-{
-    lend(l, head, body, samples, state, rows);
-    refill(l, body, samples, state, rows)
-}
-
-// The tables are those that the record states.
-fn are_stated(l: Lengths, head: &[u8; 48], body: &[u8], state: &[u8], rows: &[u32]) -> bool
-    requires { (ids_at l + 2 * l.ids ≡ length body.now) × (l.ids ≤ length rows.now) }
-    ensures { result ≡ stated_tables head.now body.now l state.now rows.now }
-{
-    let first = 3 + 2 * l.samples + l.cuts;
-    let end = first + l.state;
-    if !tables::same_bytes(state, &body[first..end]) {
-        return false;
+    let lengths = Lengths {
+        samples: numbers::four_at(head, 8) as usize,
+        cuts: numbers::four_at(head, 12) as usize,
+        state: numbers::four_at(head, 16) as usize,
+        rows: numbers::four_at(head, 20) as usize,
+        ids: numbers::four_at(head, 24) as usize,
+    };
+    let parts = 3 + 2 * lengths.samples + lengths.cuts + lengths.state + 2 * lengths.ids;
+    if body == parts
+        && lengths.samples <= MOST_POINTS
+        && lengths.samples <= samples
+        && lengths.state <= state
+        && lengths.rows <= rows
+        && lengths.ids <= lengths.rows
+    {
+        Some(lengths)
+    } else {
+        None
     }
-    let count = l.ids;
-    if !tables::same_ids(&rows[..count], body, end) {
-        return false;
-    }
-    tables::is_untouched(rows, count, numbers::four_at(head, 28) as u32)
 }
 
-// The call's answer and tables are those that the record states.
-fn is_agreed(
-    l: Lengths,
-    head: &[u8; 48],
-    body: &[u8],
-    samples: &mut [i16],
-    state: &mut [u8],
-    rows: &mut [u32],
-) -> bool
-    requires samples_le_most_points { (l.samples ≤ most_points) × (ids_at l + 2 * l.ids ≡ length body.now) × (l.ids ≤ l.rows) }
-    requires samples_len { (length samples.old ≡ l.samples) × (length state.old ≡ l.state) × (length rows.old ≡ l.rows) }
-    ensures { result ≡ agrees_with head.now body.now l }
+// The answer that a head states.
+#[tactic(auto, unfolding(crate::specs::program::Fills::answer_of))]
+fn answer_of(head: &[u8; 48]) -> Filled
+    ensures { result ≡ answer_of head.now }
 {
-    let filled = replay(l, head, body, samples, state, rows);
-    if !answers::is_same_answer(filled, heads::answer_of(head)) {
-        return false;
+    Filled {
+        number: numbers::four_at(head, 32),
+        rows: u64::from(numbers::four_at(head, 36)),
+        moved: u64::from(numbers::four_at(head, 40)),
+        place: u64::from(numbers::four_at(head, 44)),
     }
-    are_stated(l, head, body, state, rows)
+}
+
+// A recorded call whose body has all its parts.
+#[derive(Clone, Copy)]
+struct Recorded<'a> {
+    head: &'a [u8; 48],
+    body: &'a [u8],
+    lengths: Lengths,
+    ghost few: { lengths.samples ≤ most_points },
+    ghost whole: { ids_at lengths + 2 * lengths.ids ≡ length body.now },
+    ghost ids_within: { lengths.ids ≤ lengths.rows },
+}
+
+impl<'a> Recorded<'a> {
+    // Lends the tables as they were lent, and fills the block of the sizes and cut bytes that the body
+    // holds, with band 0.
+    fn replay(self, samples: &mut [i16], state: &mut [u8], rows: &mut [u32]) -> Filled
+        requires { (length samples.old ≡ self.lengths.samples) × (length state.old ≡ self.lengths.state) × (length rows.old ≡ self.lengths.rows) }
+        ensures value { result ≡ (replayed self.entry.head.now self.entry.body.now self.entry.lengths).answer }
+        ensures state_after { state.new ≡ (replayed self.entry.head.now self.entry.body.now self.entry.lengths).state }
+        ensures rows_after { rows.new ≡ (replayed self.entry.head.now self.entry.body.now self.entry.lengths).rows }
+    {
+        let head = self.head;
+        let body = self.body;
+        sampled::write_samples(body, self.lengths.samples, samples);
+        state.fill(head[28]);
+        rows.fill(numbers::four_at(head, 28));
+        let first = 3 + 2 * self.lengths.samples;
+        let end = first + self.lengths.cuts;
+        yakuemi::yakuemi_fill(
+            u32::from(body[0]),
+            u32::from(body[1]),
+            u32::from(body[2]),
+            0,
+            samples,
+            &body[first..end],
+            state,
+            rows,
+        )
+    }
+
+    // The tables are those that the record states.
+    fn are_stated(self, state: &[u8], rows: &[u32]) -> bool
+        requires { self.lengths.ids ≤ length rows.now }
+        ensures { result ≡ stated_tables self.entry.head.now self.entry.body.now self.entry.lengths state.now rows.now }
+    {
+        let first = 3 + 2 * self.lengths.samples + self.lengths.cuts;
+        let end = first + self.lengths.state;
+        let count = self.lengths.ids;
+        let head = self.head;
+        let body = self.body;
+        if state[..] != body[first..end] {
+            return false;
+        }
+        if !tables::same_ids(&rows[..count], body, end) {
+            return false;
+        }
+        tables::is_untouched(&rows[count..], numbers::four_at(head, 28))
+    }
+
+    // The call's answer and tables are those that the record states.
+    fn is_agreed(self, samples: &mut [i16], state: &mut [u8], rows: &mut [u32]) -> bool
+        requires { (length samples.old ≡ self.lengths.samples) × (length state.old ≡ self.lengths.state) × (length rows.old ≡ self.lengths.rows) }
+        ensures { result ≡ agrees_with self.entry.head.now self.entry.body.now self.entry.lengths }
+    {
+        let filled = self.replay(samples, state, rows);
+        if filled != answer_of(self.head) {
+            return false;
+        }
+        self.are_stated(state, rows)
+    }
 }
 
 // Replays a recorded call in the lent tables: true exactly if filling does what the record states.
@@ -115,19 +141,18 @@ pub fn agrees(
         ≡ fill_agrees head.now body.now
         (length samples.old) (length state.old) (length rows.old) }
 {
-    let l = heads::lengths_of(head);
-    if !heads::is_fitting(l, body.len(), samples.len(), state.len(), rows.len()) {
-        return false;
+    match fitting(head, body.len(), samples.len(), state.len(), rows.len()) {
+        None => false,
+        Some(lengths) => {
+            let call = Recorded {
+                head,
+                body,
+                lengths,
+            };
+            let n = lengths.samples;
+            let k = lengths.state;
+            let m = lengths.rows;
+            call.is_agreed(&mut samples[..n], &mut state[..k], &mut rows[..m])
+        }
     }
-    let n = l.samples;
-    let k = l.state;
-    let m = l.rows;
-    is_agreed(
-        l,
-        head,
-        body,
-        &mut samples[..n],
-        &mut state[..k],
-        &mut rows[..m],
-    )
 }

@@ -1,11 +1,8 @@
 // Recorded calls: what separate software answered, held against what the calls answer.
 #![tactic(auto)]
 
-ghost use Rattle.std.specs.Prelude.{◌≡◌};
-
 pub mod files;
 pub mod fills;
-mod heads;
 pub mod questions;
 
 // How many entries the tables of a recorded call of filling have, and how many ids it wrote.
@@ -36,10 +33,4 @@ pub struct Filed {
     pub samples: usize,
     pub cuts: usize,
     pub limit: usize,
-}
-
-fn wide(b: u8) -> u32
-    ensures { result ≡ b }
-{
-    b as u32
 }

@@ -10,7 +10,7 @@ use streams::Filled;
 
 // What was fetched: how many bytes are held, whether the input ended before all that was needed came,
 // which the contract says and the program need not ask, and the error of the read that failed, if one
-// did. Such a read ends the input.
+// did. Such a read ends the input. (No Result, as in `streams`: what is held is told in both cases.)
 #[derive(Drop)]
 pub struct Fetched {
     pub held: usize,
@@ -19,7 +19,8 @@ pub struct Fetched {
 }
 
 // `fetch` for a table of any length, which is the most that is held. (A part can be lent of a slice,
-// and not of an array behind a reference.)
+// and not of an array behind a reference. The loop goes over no list: how much a turn reads, and
+// whether there is one more, is known from the bytes that came before.)
 fn fetch_into<R: Read>(input: &mut R, bytes: &mut [u8]) -> Fetched
     ensures prefix_len { IsPrefixLen result.held bytes.new }
     ensures held_in { HeldIn 5 (length bytes.old) bytes.new result.held result.ended }

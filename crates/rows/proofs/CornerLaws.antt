@@ -1,61 +1,77 @@
--- Laws of the corners that the code holds. Assumes nothing.
+-- Laws of the table of cuts, as the code reads it. Assumes nothing.
 use Prim.Native.Nat.{ℕ, zero, suc, ◌+◌, ◌*◌, ◌/◌, ◌%◌, ◌<◌}
 use native.Mathlib.Omega.{arith}
-use mathlib.Core.Path.{◌≡◌, refl, ap, ◌∙◌}
+use mathlib.Core.Path.{◌≡◌, refl, ◌∙◌}
 use mathlib.Core.Bool.{Bool, true, false}
 use lib.Dec.{ltb}
+use lib.ListN.{get_or}
 use Rattle.std.specs.Prelude.{if◌then◌else◌}
 use Rattle.lattice.specs.Axis.{Axis}
 use Rattle.lattice.specs.Direction.{direction_of}
 use Rattle.stencil.specs.Tetrahedron.{Vertex, v0, v1, v2, v3, Quarter}
 use Rattle.stencil.specs.Stencil.{rank}
 use Rattle.stencil.specs.Id.{code_between}
-use Rattle.rows.specs.declared.Corner.TheVariants.{Edge}
 use Rattle.rows.specs.declared.Tetra.{Tetra}
-use Rattle.rows.specs.inner.Corners.{axis_at, quarter_at, vertex_at, corner_of, number_at, start_between, way_between, cut_at, Tetrahedral}
+use Rattle.rows.specs.declared.Corner.TheVariants.{Edge}
+use Rattle.rows.specs.inner.Corners.{axis_at, quarter_at, vertex_at, start_between, way_between, cut_at, KnownTetra}
 use Rattle.rows.proofs.CutTable.{cut_entry, cut_entry_law}
 
--- the last corner, for any number that is none of the others
-pub last_corner : (t : Tetra) (v : ℕ) → (v ≡ 0 → ⊥) → (v ≡ 1 → ⊥) → (v ≡ 2 → ⊥) → t.d ≡ number_at t v
-last_corner t zero p q r = absurd (p refl)
-last_corner t (suc zero) p q r = absurd (q refl)
-last_corner t (suc (suc zero)) p q r = absurd (r refl)
-last_corner t (suc (suc (suc v))) p q r = refl
+pub rank_lt : (v : Vertex) → rank v < 4
+rank_lt v0 = omega arith
+rank_lt v1 = omega arith
+rank_lt v2 = omega arith
+rank_lt v3 = omega arith
 
-pub vertex_rank : (v : Vertex) → vertex_at (rank v) ≡ v
-vertex_rank v0 = refl
-vertex_rank v1 = refl
-vertex_rank v2 = refl
-vertex_rank v3 = refl
+pub rank_vertex : (v : ℕ) → v < 4 → rank (vertex_at v) ≡ v
+rank_vertex zero h = refl
+rank_vertex (suc zero) h = refl
+rank_vertex (suc (suc zero)) h = refl
+rank_vertex (suc (suc (suc zero))) h = refl
+rank_vertex (suc (suc (suc (suc v)))) h = absurd (omega arith)
 
-pub way_lt : (a : Axis) (e : Quarter) (u v : Vertex) → way_between a e u v < 7
+pub corner_lt : {t : Tetra} → KnownTetra t → (v : ℕ) → v < 4 → get_or t.corners v 0 < t.n
+corner_lt k v h = rw (rank_vertex v h) at (k.corner_in (vertex_at v))
+
+pub way_small : (a : Axis) (e : Quarter) (u v : Vertex) → way_between a e u v < 7
 unfolding way_between direction_of
-way_lt a e u v = go (ltb (rank u) (rank v))
+way_small a e u v = go (ltb (rank u) (rank v))
   where
     go : (b : Bool) → (if b then direction_of (code_between a e u v) else direction_of (code_between a e v u)) < 7
     go true = omega arith
     go false = omega arith
 
--- what the code reads from its table is the cut
-pub cut_is : (t : Tetra) (u v x : ℕ) → Tetrahedral t → u < 4 → v < 4 → x ≡ number_at t (cut_entry t.axis t.edge u v / 8)
-    → Edge x (cut_entry t.axis t.edge u v % 8) ≡ cut_at t u v
-unfolding cut_at
-cut_is t u v x k hu hv e = λ i. Edge ((e ∙ ap (corner_of t) (ap vertex_at start ∙ vertex_rank st)) i) (way i)
-  where
-    st : Vertex
-    st = start_between (axis_at t.axis) (quarter_at t.edge) (vertex_at u) (vertex_at v)
+-- what the code reads from its table: the start, and the direction
+module _ (t : Tetra) (u v : ℕ) (k : KnownTetra t) (hu : u < 4) (hv : v < 4) where
+  abbrev pub start : Vertex
+  start = start_between (axis_at t.axis) (quarter_at t.edge) (vertex_at u) (vertex_at v)
 
-    dir : ℕ
-    dir = way_between (axis_at t.axis) (quarter_at t.edge) (vertex_at u) (vertex_at v)
+  abbrev pub way : ℕ
+  way = way_between (axis_at t.axis) (quarter_at t.edge) (vertex_at u) (vertex_at v)
 
-    is : cut_entry t.axis t.edge u v ≡ 8 * rank st + dir
-    is = cut_entry_law t.axis t.edge u v k.axis_in k.edge_in hu hv
+  pub record Read (packed : ℕ) : Type 0 where
+    pub start_lt : packed / 8 < 4
+    pub way_lt : packed % 8 < 7
+    pub number_lt : get_or t.corners (packed / 8) 0 < t.n
+    pub cut_is : Edge (get_or t.corners (packed / 8) 0) (packed % 8) ≡ cut_at t u v
 
-    small : dir < 7
-    small = way_lt (axis_at t.axis) (quarter_at t.edge) (vertex_at u) (vertex_at v)
+  pub read : {packed : ℕ} → packed ≡ cut_entry t.axis t.edge u v → Read packed
+  unfolding cut_at
+  read {packed} e =
+      record {
+        start_lt = omega (arith, is, small, rank_lt start);
+        way_lt = omega (arith, is, small);
+        number_lt = rw start_is (k.corner_in start);
+        cut_is = λ i. Edge (get_or t.corners (start_is i) 0) (way_is i);
+      }
+    where
+      is : packed ≡ 8 * rank start + way
+      is = e ∙ cut_entry_law t.axis t.edge u v k.axis_in k.edge_in hu hv
 
-    start : cut_entry t.axis t.edge u v / 8 ≡ rank st
-    start = omega (arith, is, small)
+      small : way < 7
+      small = way_small (axis_at t.axis) (quarter_at t.edge) (vertex_at u) (vertex_at v)
 
-    way : cut_entry t.axis t.edge u v % 8 ≡ dir
-    way = omega (arith, is, small)
+      start_is : packed / 8 ≡ rank start
+      start_is = omega (arith, is, small)
+
+      way_is : packed % 8 ≡ way
+      way_is = omega (arith, is, small)

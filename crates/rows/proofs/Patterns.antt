@@ -5,6 +5,7 @@ use mathlib.Core.Path.{◌≡◌, refl, ap, ◌∙◌}
 use mathlib.Core.Bool.{Bool, true, false, not, beq}
 use mathlib.Core.List.{List, [], ◌∷◌, map}
 use lib.Dec.{T, eqb}
+use lib.ListN.{get_or}
 use Rattle.std.specs.Prelude.{if◌then◌else◌}
 use Rattle.basics.proofs.Test.{◌&◌, and_l, and_r}
 use Rattle.basics.proofs.Finite.{each, each_use}
@@ -17,11 +18,9 @@ use Rattle.stencil.specs.Row.{Row, row, swapped}
 use Rattle.stencil.specs.Stencil.{Entry, rank, point, cut, choose, stencil_of, rows_of, rows_for}
 use Rattle.stencil.proofs.Entries.{same_entry, same_entry_use}
 use Rattle.stencil.specs.inner.Sign.{newcomer, order, even_first, even, signed}
-use Rattle.rows.specs.declared.Weights.{Weights}
-use Rattle.rows.specs.declared.Order.{Order}
 use Rattle.rows.specs.inner.Corners.{vertex_at}
 use Rattle.rows.specs.inner.Picks.{weight, sum, picked, chosen, ordered, inversion, is_even}
-use Rattle.rows.specs.inner.Stencils.{lines}
+use Rattle.rows.specs.inner.Stencils.{lines, lines_by}
 
 abbrev pub four : Label → Label → Label → Label → Vertex → Label
 four a b c d v0 = a
@@ -29,13 +28,13 @@ four a b c d v1 = b
 four a b c d v2 = c
 four a b c d v3 = d
 
-abbrev pub weights : (Vertex → Label) → Weights
-weights l = record { a = weight (l v0); b = weight (l v1); c = weight (l v2); d = weight (l v3) }
+abbrev pub listed : (Vertex → Label) → List Label
+listed l = l v0 ∷ l v1 ∷ l v2 ∷ l v3 ∷ []
 
 -- the table over the entries of document 01's rows
 abbrev pub entry_lines : (Vertex → Label) → Bool → List (Row (Entry Vertex))
 entry_lines l s =
-    let w = weights l in
+    let w = listed l in
     lines (λ v. point (vertex_at v)) (λ u v. cut (vertex_at u) (vertex_at v)) (λ k a b c d. if k then row a b c d else swapped (row a b c d))
     (stencil_of (sum w)) (ordered w) (beq s (is_even w))
 
@@ -68,21 +67,21 @@ rows_use (r ∷ l) (q ∷ m) t = λ i. row_use r q (and_l _ _ t) i ∷ rows_use 
 unfoldable apart : ℕ → ℕ → Bool
 apart u v = not (eqb (rank (vertex_at u)) (rank (vertex_at v)))
 
-unfoldable all_apart : Order → Bool
+unfoldable all_apart : List ℕ → Bool
 all_apart o =
-    apart o.first o.second
-    & (apart o.first o.third
-    & (apart o.first o.fourth
-    & (apart o.second o.third
-    & (apart o.second o.fourth & apart o.third o.fourth))))
+    apart (get_or o 0 0) (get_or o 1 0)
+    & (apart (get_or o 0 0) (get_or o 2 0)
+    & (apart (get_or o 0 0) (get_or o 3 0)
+    & (apart (get_or o 1 0) (get_or o 2 0)
+    & (apart (get_or o 1 0) (get_or o 3 0) & apart (get_or o 2 0) (get_or o 3 0)))))
 
 unfoldable right : Label → Label → Label → Label → Bool → Bool
 right a b c d s =
-    all_apart (ordered (weights (four a b c d)))
+    all_apart (ordered (listed (four a b c d)))
     & same_rows (map (signed s) (rows_for (four a b c d))) (entry_lines (four a b c d) s)
 
 ok : T (each the_labels (λ a. each the_labels (λ b. each the_labels (λ c. each the_labels (λ d. each the_bools (right a b c d))))))
-unfolding ◌&◌ right all_apart apart same_rows same_row same_entry lines cut choose is_plus is_minus is_zero stencil_of rows_of rows_for
+unfolding ◌&◌ right all_apart apart same_rows same_row same_entry lines_by cut choose is_plus is_minus is_zero stencil_of rows_of rows_for
     newcomer order even_first even signed weight sum picked chosen ordered inversion is_even
 ok = tt
 
@@ -104,33 +103,33 @@ unfolding right
 lines_are l s =
     ap (map (signed s)) (same_rows_law l)
     ∙ rows_use (map (signed s) (rows_for (four (l v0) (l v1) (l v2) (l v3)))) (entry_lines (four (l v0) (l v1) (l v2) (l v3)) s)
-    (and_r (all_apart (ordered (weights (four (l v0) (l v1) (l v2) (l v3))))) _ (one (l v0) (l v1) (l v2) (l v3) s))
+    (and_r (all_apart (ordered (listed (four (l v0) (l v1) (l v2) (l v3))))) _ (one (l v0) (l v1) (l v2) (l v3) s))
 
 -- the order names four corners
-pub record Apart (o : Order) : Type 0 where
-  pub 1-2 : T (not (eqb (rank (vertex_at o.first)) (rank (vertex_at o.second))))
-  pub 1-3 : T (not (eqb (rank (vertex_at o.first)) (rank (vertex_at o.third))))
-  pub 1-4 : T (not (eqb (rank (vertex_at o.first)) (rank (vertex_at o.fourth))))
-  pub 2-3 : T (not (eqb (rank (vertex_at o.second)) (rank (vertex_at o.third))))
-  pub 2-4 : T (not (eqb (rank (vertex_at o.second)) (rank (vertex_at o.fourth))))
-  pub 3-4 : T (not (eqb (rank (vertex_at o.third)) (rank (vertex_at o.fourth))))
+pub record Apart (o : List ℕ) : Type 0 where
+  pub 1-2 : T (not (eqb (rank (vertex_at (get_or o 0 0))) (rank (vertex_at (get_or o 1 0)))))
+  pub 1-3 : T (not (eqb (rank (vertex_at (get_or o 0 0))) (rank (vertex_at (get_or o 2 0)))))
+  pub 1-4 : T (not (eqb (rank (vertex_at (get_or o 0 0))) (rank (vertex_at (get_or o 3 0)))))
+  pub 2-3 : T (not (eqb (rank (vertex_at (get_or o 1 0))) (rank (vertex_at (get_or o 2 0)))))
+  pub 2-4 : T (not (eqb (rank (vertex_at (get_or o 1 0))) (rank (vertex_at (get_or o 3 0)))))
+  pub 3-4 : T (not (eqb (rank (vertex_at (get_or o 2 0))) (rank (vertex_at (get_or o 3 0)))))
 
-apart_use : (o : Order) → T (all_apart o) → Apart o
+apart_use : (o : List ℕ) → T (all_apart o) → Apart o
 unfolding all_apart apart
 apart_use o t =
-    let u = and_r (apart o.first o.second) _ t in
-    let v = and_r (apart o.first o.third) _ u in
-    let w = and_r (apart o.first o.fourth) _ v in
-    let x = and_r (apart o.second o.third) _ w in
+    let u = and_r (apart (get_or o 0 0) (get_or o 1 0)) _ t in
+    let v = and_r (apart (get_or o 0 0) (get_or o 2 0)) _ u in
+    let w = and_r (apart (get_or o 0 0) (get_or o 3 0)) _ v in
+    let x = and_r (apart (get_or o 1 0) (get_or o 2 0)) _ w in
     record {
       1-2 = and_l _ _ t;
       1-3 = and_l _ _ u;
       1-4 = and_l _ _ v;
       2-3 = and_l _ _ w;
       2-4 = and_l _ _ x;
-      3-4 = and_r (apart o.second o.fourth) _ x;
+      3-4 = and_r (apart (get_or o 1 0) (get_or o 3 0)) _ x;
     }
 
-pub ordered_apart : (l : Vertex → Label) → Apart (ordered (weights l))
+pub ordered_apart : (l : Vertex → Label) → Apart (ordered (listed l))
 unfolding right
-ordered_apart l = apart_use (ordered (weights l)) (and_l _ _ (one (l v0) (l v1) (l v2) (l v3) true))
+ordered_apart l = apart_use (ordered (listed l)) (and_l _ _ (one (l v0) (l v1) (l v2) (l v3) true))

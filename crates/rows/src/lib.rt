@@ -15,47 +15,16 @@ pub enum Corner {
 
 // The four corners of a row.
 #[derive(Clone, Copy)]
-pub struct Row {
-    pub a: Corner,
-    pub b: Corner,
-    pub c: Corner,
-    pub d: Corner,
-}
+pub struct Row(pub Corner, pub Corner, pub Corner, pub Corner);
 
-// The rows of a tetrahedron.
-#[derive(Clone, Copy)]
-pub enum Rows {
-    None,
-    One(Row),
-    Two(Row, Row),
-    Three(Row, Row, Row),
-}
-
-// A lattice tetrahedron: its axis, its edge in the turn, and the numbers of its corners, ascending.
+// A lattice tetrahedron of a block of n points: its axis, its edge in the turn, and the numbers of its
+// corners, ascending. (Axis and edge are numbers, as they are places in the table of cuts. That the corners
+// are points of the block stands in contracts, as `KnownTetra`: clauses say which tetrahedron a result is,
+// and a fact in it would be a part of that equation.)
 #[derive(Clone, Copy)]
 pub struct Tetra {
+    pub n: usize,
     pub axis: usize,
     pub edge: usize,
-    pub a: usize,
-    pub b: usize,
-    pub c: usize,
-    pub d: usize,
-}
-
-// The weights of its four corners' labels.
-#[derive(Clone, Copy)]
-pub struct Weights {
-    pub a: usize,
-    pub b: usize,
-    pub c: usize,
-    pub d: usize,
-}
-
-// The four corners in an order, each by its place among the ascending ones.
-#[derive(Clone, Copy)]
-pub struct Order {
-    pub first: usize,
-    pub second: usize,
-    pub third: usize,
-    pub fourth: usize,
+    pub corners: [usize; 4],
 }

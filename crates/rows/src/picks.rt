@@ -1,67 +1,81 @@
 // The corners of a tetrahedron in the order of the table: plus, minus, zero, each ascending.
 ghost use Rattle.std.specs.Prelude.{◌≡◌, ◌≤◌};
-ghost use Rattle.rows.specs.inner.Picks.{picked, chosen, ordered, inversion, is_even};
+ghost use Rattle.rows.specs.inner.Picks.{weight, plus_weight, sum, picked, chosen, ordered, inversion, is_even};
 
-use crate::{Order, Weights};
+use moving::Label;
 
-// The weights of labels. Those of four corners add up to the pattern's number.
-pub const PLUS: usize = 5;
+// The weight of a label. Those of four corners add up to the pattern's number.
+#[tactic(auto, unfolding(crate::specs::inner::Picks::weight))]
+fn weight(label: Label) -> usize
+    ensures value { result ≡ weight label }
+    ensures upper_bound { result ≤ plus_weight }
+{
+    match label {
+        Label::Minus => 1,
+        Label::Zero => 0,
+        Label::Plus => 5,
+    }
+}
 
-pub const MINUS: usize = 1;
+// The pattern's number: document 01 has its table by it.
+#[tactic(auto, unfolding(crate::specs::inner::Picks::sum))]
+pub fn pattern(labels: [Label; 4]) -> usize
+    ensures { result ≡ sum labels }
+{
+    let [a, b, c, d] = labels;
+    weight(a) + (weight(b) + (weight(c) + weight(d)))
+}
 
-pub const ZERO: usize = 0;
-
-fn pick(taken: bool, v: usize, rest: Order) -> Order
+// A corner before the rest, if it is taken.
+#[tactic(auto, unfolding(crate::specs::inner::Picks::picked))]
+fn pick(taken: bool, v: usize, rest: [usize; 4]) -> [usize; 4]
     ensures { result ≡ picked taken v rest }
 {
     if taken {
-        return Order {
-            first: v,
-            second: rest.first,
-            third: rest.second,
-            fourth: rest.third,
-        };
+        [v, rest[0], rest[1], rest[2]]
+    } else {
+        rest
     }
-    rest
 }
 
-// The corners of a weight, ascending, and then the rest.
-fn choose(weight: usize, w: Weights, rest: Order) -> Order
-    ensures { result ≡ chosen weight w rest }
+// The corners with a label, ascending, and then the rest.
+#[tactic(auto, unfolding(crate::specs::inner::Picks::chosen))]
+fn choose(label: Label, labels: [Label; 4], rest: [usize; 4]) -> [usize; 4]
+    ensures { result ≡ chosen label labels rest }
 {
-    let d = pick(w.d == weight, 3, rest);
-    let c = pick(w.c == weight, 2, d);
-    let b = pick(w.b == weight, 1, c);
-    pick(w.a == weight, 0, b)
+    let wanted = weight(label);
+    let [a, b, c, d] = labels;
+    let from_d = pick(weight(d) == wanted, 3, rest);
+    let from_c = pick(weight(c) == wanted, 2, from_d);
+    let from_b = pick(weight(b) == wanted, 1, from_c);
+    pick(weight(a) == wanted, 0, from_b)
 }
 
-pub fn order(w: Weights) -> Order
-    ensures { result ≡ ordered w }
+#[tactic(auto, unfolding(crate::specs::inner::Picks::ordered))]
+pub fn order(labels: [Label; 4]) -> [usize; 4]
+    ensures { result ≡ ordered labels }
 {
-    let none = Order {
-        first: 0,
-        second: 0,
-        third: 0,
-        fourth: 0,
-    };
-    let zeros = choose(ZERO, w, none);
-    let others = choose(MINUS, w, zeros);
-    choose(PLUS, w, others)
+    let zeros = choose(Label::Zero, labels, [0; 4]);
+    let others = choose(Label::Minus, labels, zeros);
+    choose(Label::Plus, labels, others)
 }
 
 // A pair of corners that the order exchanges.
-fn inverted(a: usize, b: usize) -> usize
-    ensures value { result ≡ inversion a b }
+#[tactic(auto, unfolding(crate::specs::inner::Picks::inversion))]
+fn inverted(a: Label, b: Label) -> usize
+    ensures value { result ≡ inversion (weight a) (weight b) }
     ensures upper_bound { result ≤ 1 }
 {
-    if a < b { 1 } else { 0 }
+    if weight(a) < weight(b) { 1 } else { 0 }
 }
 
 // The order exchanges an even number of pairs.
-pub fn is_even(w: Weights) -> bool
-    ensures { result ≡ is_even w }
+#[tactic(auto, unfolding(crate::specs::inner::Picks::is_even))]
+pub fn is_even(labels: [Label; 4]) -> bool
+    ensures { result ≡ is_even labels }
 {
-    let first = inverted(w.a, w.b) + inverted(w.a, w.c) + inverted(w.a, w.d);
-    let rest = inverted(w.b, w.c) + inverted(w.b, w.d) + inverted(w.c, w.d);
+    let [a, b, c, d] = labels;
+    let first = inverted(a, b) + inverted(a, c) + inverted(a, d);
+    let rest = inverted(b, c) + inverted(b, d) + inverted(c, d);
     (first + rest) % 2 == 0
 }

@@ -7,6 +7,7 @@ ghost use Rattle.metric.specs.Millimetres.{unit_fits, scaled, metric, unplaced_m
 
 use filling::Placed;
 use metric::{Metric, PlacedMm};
+use refusals::Refusal;
 
 // 1/1,048,576 and 16 millimetres per step: 2^-20, all its decimals written out, and 2^4.
 const LEAST: f64 = 0.00000095367431640625;
@@ -17,13 +18,11 @@ const MOST: f64 = 16.0;
 fn unit_fits(unit: f64) -> bool
     ensures { result ≡ unit_fits unit }
 {
-    if LEAST <= unit {
-        return unit <= MOST;
-    }
-    false
+    LEAST <= unit && unit <= MOST
 }
 
 // A whole number of steps in millimetres: the cast loses nothing, the product is rounded once.
+#[tactic(auto, unfolding(metric::specs::Millimetres::scaled))]
 fn times(n: u32, unit: f64) -> f64
     ensures { result ≡ scaled unit n }
 {
@@ -33,24 +32,25 @@ fn times(n: u32, unit: f64) -> f64
 fn refused(number: u32) -> PlacedMm
     ensures { result ≡ unplaced_mm number }
 {
-    let zeros = Metric {
-        x: 0.0,
-        y: 0.0,
-        z: 0.0,
-    };
     PlacedMm {
         number,
-        point: zeros,
+        point: Metric {
+            x: 0.0,
+            y: 0.0,
+            z: 0.0,
+        },
     }
 }
 
+#[tactic(auto, unfolding(metric::specs::Millimetres::metric))]
 fn point(p: Placed, unit: f64) -> Metric
     ensures { result ≡ metric unit p }
 {
-    let x = times(p.x, unit);
-    let y = times(p.y, unit);
-    let z = times(p.z, unit);
-    Metric { x, y, z }
+    Metric {
+        x: times(p.x, unit),
+        y: times(p.y, unit),
+        z: times(p.z, unit),
+    }
 }
 
 // The place call's own refusals come first, then 13.
@@ -61,11 +61,10 @@ pub fn in_millimetres(p: Placed, unit: f64) -> PlacedMm
         return refused(p.number);
     }
     if !unit_fits(unit) {
-        return refused(13);
+        return refused(Refusal::Unit.number());
     }
-    let m = point(p, unit);
     PlacedMm {
         number: 0,
-        point: m,
+        point: point(p, unit),
     }
 }

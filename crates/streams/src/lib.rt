@@ -12,7 +12,7 @@ use std::io;
 use std::io::{Error, Read};
 
 // What came of it: how many bytes stand at the start of the table, and the error of the read that
-// failed, if one did.
+// failed, if one did. (No Result: the count is told in both cases, and would stand in both variants.)
 #[derive(Drop)]
 pub struct Filled {
     pub count: usize,
@@ -20,7 +20,8 @@ pub struct Filled {
 }
 
 // Reads until the table is full, the input ends or a read fails, and takes no other byte from the
-// reader. A read that a signal interrupts has failed.
+// reader. A read that a signal interrupts has failed. (The library's `read_exact` does not tell how many
+// bytes came before an early end, and a read says how far the next one starts: there is no list to go over.)
 pub fn read_full<R: Read>(input: &mut R, table: &mut [u8]) -> Filled
     ensures prefix_len { IsPrefixLen result.count table.new }
     ensures consumed { Consumes (R.remaining input.old) (R.remaining input.new) (take result.count table.new) }

@@ -1,69 +1,100 @@
 -- What the checks of rim and cut bytes say of a block. Assumes nothing.
+--     rim_refused, cut_refused     a rim point at fault, or a byte
+--     accept                      none: the block is accepted
+--     at_rim, at_cut, passed      the same for a cut table that the code holds
 use Prim.Native.Nat.{ℕ, suc, ◌*◌, ◌≤◌, ◌<◌}
 use native.Mathlib.Omega.{arith}
-use mathlib.Core.Path.{◌≡◌, refl, sym, ap, ◌∙◌}
+use mathlib.Core.Path.{◌≡◌, refl, sym, ap, subst, ◌∙◌}
 use mathlib.Core.Bool.{Bool, true, false, not}
 use mathlib.Core.List.{List}
 use lib.ListN.{length}
 use lib.Dec.{eqb, ltb}
 use borrow.Author.Tests.{ltb-true, eqb-true, not-false}
-use Rattle.std.specs.Prelude.{if◌then◌else◌}
+use Rattle.std.proofs.Common.{Option, Some, None, Result, Ok, Err}
+use Rattle.std.specs.Prelude.{if◌then◌else◌, unwrap_or}
 use Rattle.basics.proofs.Search.{lowest_none}
 use Rattle.lattice.specs.Counts.{points}
 use Rattle.lattice.proofs.Sized.{sized_fits}
 use Rattle.moving.specs.Label.{band_most}
 use Rattle.moving.specs.Block.{Block, Tabled}
 use Rattle.moving.proofs.Band.{banded_fits}
-use Rattle.filling.specs.declared.Filled.{Filled}
 use Rattle.filling.specs.Check.{rim_fault, Accepted}
-use Rattle.filling.specs.Fill.{refused}
+use Rattle.filling.specs.Fill.{refused, fill}
 use Rattle.filling.proofs.Accepted.{label_in, fault_in, rim_of, cut_of}
+use Rattle.refusals.specs.declared.Refusal.{Refusal}
+use Rattle.refusals.specs.declared.Refusal.TheVariants.{Rim}
+use Rattle.refusals.specs.inner.Numbers.{number_of as refusal_number, place_of}
+use Rattle.checks.specs.declared.CutTable.{CutTable}
 use Rattle.checks.specs.declared.Fault.{Fault}
-use Rattle.checks.specs.declared.Fault.TheVariants.{Fine}
-use Rattle.checks.specs.inner.Faults.{number_of, fault_place, CutAnswer}
-use Rattle.stuffing.specs.inner.Fills.{Fills}
-use Rattle.stuffing.proofs.Refusals.{refusal_by, by_rim, by_byte_law}
+use Rattle.checks.specs.declared.Fault.TheVariants.{Gap, Stray}
+use Rattle.checks.specs.inner.Faults.{fault_number, fault_offset, number_of, fault_place, CutAnswer}
+use Rattle.stuffing.specs.inner.Checks.{block_of_table, Refuses, Taken}
+use Rattle.stuffing.proofs.Refusals.{by_rim, by_byte_law}
 
--- the answer of a refusal, as the code makes it
-abbrev pub said : ℕ → ℕ → Filled
-said n at = record { number = n; rows = 0; moved = 0; place = at }
-
-module _ (band : ℕ) (b : Block) (state rows : List ℕ) (small : band ≤ band_most) (t : Tabled b) (long : length state ≡ points b.sizes)
-    {r : Filled} where
+module _ (band : ℕ) (b : Block) (small : band ≤ band_most) (t : Tabled b) (state rows : List ℕ) (long : length state ≡ points b.sizes) where
   -- a rim point at fault
-  pub rim_refused : {first n : ℕ} → first ≡ rim_of band b → n ≡ points b.sizes → first < n → r ≡ said 5 first
-      → Fills band b state rows r state rows
-  rim_refused e f h i =
-      refusal_by band b state rows r 5 (rim_of band b) (i ∙ ap (said 5) e)
-      (by_rim band b state rows (sized_fits b.sizes t.sized) (banded_fits band small) t.samples_long t.cuts_long long (omega arith))
+  pub rim_refused : {p : ℕ} → p ≡ rim_of band b → p < points b.sizes → fill band b state rows ≡ refused state rows 5 p
+  rim_refused {p} e h =
+      by_rim band b state rows (sized_fits b.sizes t.sized) (banded_fits band small) t.samples_long t.cuts_long long (omega arith)
+      ∙ ap (refused state rows 5) (sym e)
 
-  -- a byte at fault: one of the two answers that are not fine
-  pub cut_refused : {first n : ℕ} → first ≡ rim_of band b → n ≡ points b.sizes → n ≤ first
-      → (f : Fault) (k o : ℕ) → CutAnswer b.sizes (label_in band b) b.cuts f → number_of f ≡ suc k
-      → fault_place (7 * points b.sizes) f ≡ o → r ≡ said (suc k) o → Fills band b state rows r state rows
-  cut_refused e g h f k o a n p i = go (ltb (cut_of band b) (7 * points b.sizes)) refl (sym n ∙ a.number)
+  -- a byte at fault
+  pub cut_refused : points b.sizes ≤ rim_of band b → (f : Fault) → CutAnswer b.sizes (label_in band b) b.cuts (Err f)
+      → fill band b state rows ≡ refused state rows (fault_number f) (fault_offset f)
+  cut_refused r f a = go (ltb (cut_of band b) (7 * points b.sizes)) refl a.number
     where
-      place : o ≡ cut_of band b
-      place = sym p ∙ a.place
+      some : (f : Fault) → fault_number f ≡ 0 → ⊥
+      some (Gap o) e = absurd (omega (arith, e))
+      some (Stray o) e = absurd (omega (arith, e))
 
-      go : (z : Bool) → ltb (cut_of band b) (7 * points b.sizes) ≡ z → suc k ≡ (if z then fault_in band b (cut_of band b) else 0)
-          → Fills band b state rows r state rows
-      go false z w = absurd (omega arith)
+      go : (z : Bool) → ltb (cut_of band b) (7 * points b.sizes) ≡ z → fault_number f ≡ (if z then fault_in band b (cut_of band b) else 0)
+          → fill band b state rows ≡ refused state rows (fault_number f) (fault_offset f)
+      go false z w = absurd (some f w)
       go true z w =
-          refusal_by band b state rows r (suc k) (cut_of band b) (i ∙ ap (said (suc k)) place)
-          (by_byte_law band b state rows (sized_fits b.sizes t.sized) (banded_fits band small) t.samples_long t.cuts_long long
-          (omega arith) (ltb-true _ _ z)
-          ∙ ap (λ (m : ℕ). refused state rows m (cut_of band b)) (sym w))
+          by_byte_law band b state rows (sized_fits b.sizes t.sized) (banded_fits band small) t.samples_long t.cuts_long long
+          r (ltb-true _ _ z)
+          ∙ (λ i. refused state rows (sym w i) (sym a.place i))
 
 -- no fault on the rim and none in the cut table: the block is accepted
-pub accept : (band : ℕ) (b : Block) {first n : ℕ} {f : Fault} → band ≤ band_most → Tabled b → first ≡ rim_of band b → n ≡ points b.sizes → n ≤ first
-    → CutAnswer b.sizes (label_in band b) b.cuts f → f ≡ Fine → Accepted band b
-accept band b l t e g h a z =
-    let none = sym (ap (fault_place (7 * points b.sizes)) z) ∙ a.place in
-    let clear = lowest_none (λ o. not (eqb (fault_in band b o) 0)) (7 * points b.sizes) (omega arith) in
+pub accept : (band : ℕ) (b : Block) → band ≤ band_most → Tabled b → points b.sizes ≤ rim_of band b
+    → CutAnswer b.sizes (label_in band b) b.cuts (Ok tt) → Accepted band b
+accept band b l t r a =
+    let clear = lowest_none (λ o. not (eqb (fault_in band b o) 0)) (7 * points b.sizes) (omega (arith, a.place)) in
     record {
       banded = l;
       tabled = t;
-      rim_fine = lowest_none (rim_fault b.sizes (label_in band b)) (points b.sizes) (omega arith);
+      rim_fine = lowest_none (rim_fault b.sizes (label_in band b)) (points b.sizes) r;
       cuts_fine = λ o u. eqb-true _ _ (not-false _ (clear o u));
     }
+
+module _ {band : ℕ} {b : Block} {n : ℕ} {t : CutTable} (h : Taken band b n t) where
+  abbrev its : Block
+  its = block_of_table t
+
+  tabled : Tabled its
+  tabled = record { sized = t.scan.lattice.sized; samples_long = t.scan.sampled; cuts_long = t.tabled }
+
+  small : t.scan.band ≤ band_most
+  small = omega (arith, h.band_is, h.banded)
+
+  refuses : {e : Refusal} → ((state rows : List ℕ) → length state ≡ points its.sizes
+      → fill t.scan.band its state rows ≡ refused state rows (refusal_number e) (place_of e)) → Refuses band b n e
+  refuses {e} f =
+      subst (λ (k : ℕ). Refuses k b n e) h.band_is
+      (subst (λ (c : Block). Refuses t.scan.band c n e) h.block_is
+      (record { is = λ state rows l. f state rows (sym l ∙ h.state_long ∙ ap (λ (c : Block). points c.sizes) (sym h.block_is)) }))
+
+  pub at_rim : {p : ℕ} → p ≡ rim_of t.scan.band its → p < points its.sizes → Refuses band b n (Rim p)
+  unfolding refusal_number place_of
+  at_rim e l = refuses (λ state rows long. rim_refused t.scan.band its small tabled state rows long e l)
+
+  pub at_cut : points its.sizes ≤ rim_of t.scan.band its → (f : Fault) → CutAnswer its.sizes (label_in t.scan.band its) its.cuts (Err f)
+      → (e : Refusal) → refusal_number e ≡ fault_number f → place_of e ≡ fault_offset f → Refuses band b n e
+  at_cut r f a e same place =
+      refuses (λ state rows long.
+      cut_refused t.scan.band its small tabled state rows long r f a ∙ (λ i. refused state rows (sym same i) (sym place i)))
+
+  pub passed : points its.sizes ≤ rim_of t.scan.band its → CutAnswer its.sizes (label_in t.scan.band its) its.cuts (Ok tt) → Accepted band b
+  passed r a =
+      subst (λ (k : ℕ). Accepted k b) h.band_is
+      (subst (λ (c : Block). Accepted t.scan.band c) h.block_is (accept t.scan.band its small tabled r a))

@@ -64,8 +64,3 @@ module _ (band : ℕ) (b : Block) (state rows : List ℕ) where
               → fill band b state rows ≡ written state rows (reading_of band b)
           unfolding fill
           by_none r h = simp (fit, banded, eq-eqb _ _ samples, eq-eqb _ _ cuts, eq-eqb _ _ long, le-ltb _ _ r, le-ltb _ _ h)
-
--- a refusal as the code makes it
-pub refusal_by : (band : ℕ) (b : Block) (state rows : List ℕ) (r : Filled) (n at : ℕ) → r ≡ record { number = n; rows = 0; moved = 0; place = at }
-    → fill band b state rows ≡ refused state rows n at → Fills band b state rows r state rows
-refusal_by band b state rows r n at e f = subst (λ (q : Filled). Fills band b state rows q state rows) (sym e) (refusal band b state rows n at f)

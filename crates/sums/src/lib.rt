@@ -20,6 +20,7 @@ pub struct Sums {
 }
 
 // Where the corner of a row stands: the place call's answer.
+// (Sizes and tables one by one: `Measured` speaks of the rows by them, and the place call takes them so.)
 fn stand(s: Sizes, cuts: &[u8], state: &[u8], id: u32) -> Place
     requires { Standing s cuts.now state.now id }
     ensures result_value { place_at result ≡ place_of s cuts.now state.now id }
@@ -50,6 +51,7 @@ fn volume_at(s: Sizes, cuts: &[u8], state: &[u8], rows: &[u32], count: usize, i:
 }
 
 // The smallest of i values and one more: the first is the smallest of one.
+// (No minimum of two: the first one has none before it.)
 fn lesser(i: usize, least: u64, v: u64) -> u64
     ensures { result ≡ (if eqb i 0 then v else if ltb v least then v else least) }
 {
@@ -63,6 +65,7 @@ fn lesser(i: usize, least: u64, v: u64) -> u64
 }
 
 // Adds up the first `count` rows, as filling left them with these tables.
+// (By the row's number, by which `Measured` says that its corners stand somewhere.)
 pub fn add_up(s: Sizes, cuts: &[u8], state: &[u8], rows: &[u32], count: usize) -> Sums
     requires { Measured s cuts.now state.now rows.now count }
     ensures sum_value { pos result.sum

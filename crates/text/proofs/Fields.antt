@@ -1,13 +1,10 @@
 -- A line, field by field: what was put after the first bytes of a table is the start of the line. Assumes nothing.
 --     then_last    the last field and the end of the line
 --     then_more    a field and a space before the rest of the line
---     counts       as many bytes as were put, in the form that lending them asks for
-use Prim.Native.Nat.{ℕ, ◌≤◌}
-use mathlib.Core.Path.{◌≡◌, sym, ap, ◌∙◌}
+use Prim.Native.Nat.{ℕ}
+use mathlib.Core.Path.{◌≡◌, ap, ◌∙◌}
 use mathlib.Core.List.{List, [], ◌∷◌, ◌++◌, append_assoc}
-use lib.ListN.{length}
-use lib.Seq.{append_snoc, length-take-le}
-use Rattle.text.specs.inner.Counts.{IsPrefixLen}
+use lib.Seq.{append_snoc}
 use Rattle.text.specs.Text.{space, newline, line}
 
 -- after the first bytes there are these fields, and nothing else
@@ -28,6 +25,3 @@ then_more first w {now} {all} {v} {ws} e g =
           g.is ∙ ap (λ (l : List ℕ). l ++ rest) e ∙ append_assoc first (w ++ (space ∷ [])) rest
           ∙ ap (λ (l : List ℕ). first ++ l) (append_snoc w space rest);
     }
-
-pub counts : (n : ℕ) (l : List ℕ) → n ≤ length l → IsPrefixLen n l
-counts n l h = (h, sym (length-take-le n l h))

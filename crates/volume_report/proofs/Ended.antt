@@ -17,8 +17,7 @@ use Rattle.blockfile.proofs.Checked.{Answers, fine, by_size, by_file, by_limit, 
 use Rattle.blockfile.proofs.Stages.{three}
 use Rattle.blockfile.proofs.Settled.{read_end}
 use Rattle.fill_file.specs.program.Summary.{bench_limit}
-use Rattle.volume_report.specs.declared.Entry.{Entry}
-use Rattle.volume_report.specs.program.Report.{opened, filled, measured, refusal, entry_from, entry_of, is_last}
+use Rattle.volume_report.specs.program.Report.{Entry, opened, filled, measured, refusal, entry_from, entry_of, is_last}
 
 -- the reader's refusals end the report
 refusal_last : (n : ℕ) → Answers n → is_last n ≡ false → n ≡ 0

@@ -4,9 +4,8 @@ use mathlib.Core.Path.{◌≡◌}
 use mathlib.Core.List.{List, [], ◌∷◌}
 use borrow.Author.Tests.{eq-eqb, ne_eqb}
 use Rattle.text.specs.Text.{ascii, decimal, line}
-use Rattle.volume_report.specs.declared.Entry.{Entry}
 use Rattle.volume_report.specs.declared.Tally.{Tally}
-use Rattle.volume_report.specs.program.Report.{line_of, last_line}
+use Rattle.volume_report.specs.program.Report.{Entry, line_of, last_line}
 
 module _ (i : ℕ) (e : Entry) where
   pub volumes_line : {l : List ℕ} → e.number ≡ 0

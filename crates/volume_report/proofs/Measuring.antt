@@ -11,19 +11,13 @@ use Rattle.geometry.specs.Place.{place_of}
 use Rattle.filling.specs.Mesh.{row_volume}
 use Rattle.filling.specs.Demand.{rows_read}
 use Rattle.boundary.specs.Sum.{sum, smallest}
-use Rattle.sums.specs.inner.Measured.{Measured}
-use Rattle.fill_file.specs.declared.Summary.{Summary}
-use Rattle.volume_report.specs.declared.Entry.{Entry}
-use Rattle.volume_report.specs.program.Report.{measured}
+use Rattle.fill_file.specs.program.Summary.{Summary}
+use Rattle.volume_report.specs.program.Report.{Entry, measured}
 use Rattle.bounds.specs.inner.Most.{volume_most, rows_most}
 use Rattle.volume_report.specs.inner.Small.{Small}
 
 -- the code holds N in a local
 module _ (s : Sizes) (cuts state rows : List ℕ) {n : ℕ} (p : n ≡ points s) where
-  pub lent_measured : {count : ℕ} → Measured s (take (7 * points s) cuts) (take (points s) state) rows count
-      → Measured s (take (7 * n) cuts) (take n state) rows count
-  lent_measured w = rw p w
-
   pub measured_is : (end : ℕ) (f : Summary) {total least : ℕ}
       → pos total ≡ sum (row_volume (place_of s (take (7 * n) cuts) (take n state))) (rows_read rows f.emitted)
       → pos least ≡ smallest (row_volume (place_of s (take (7 * n) cuts) (take n state))) (rows_read rows f.emitted)

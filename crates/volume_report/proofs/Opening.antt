@@ -12,7 +12,7 @@ use lib.Dec.{eqb}
 use borrow.Author.Tests.{eq-eqb, eqb-true}
 use Rattle.std.specs.Prelude.{if◌then◌else◌}
 use Rattle.lattice.specs.declared.Sizes.{Sizes}
-use Rattle.lattice.specs.Counts.{Sized, points}
+use Rattle.lattice.specs.Counts.{points}
 use Rattle.moving.specs.Block.{Block, Bytes, block_of, reading_of}
 use Rattle.moving.specs.Moving.{state_of}
 use Rattle.moving.proofs.Moved.{state_reached}
@@ -29,14 +29,12 @@ use Rattle.boundary.proofs.Theorems.{volume_enclosed}
 use Rattle.bounds.proofs.Amount.{bench_rows_law}
 use Rattle.sums.specs.inner.Measured.{Measured}
 use Rattle.sums.proofs.Filled.{filled_measured}
-use Rattle.blockfile.specs.declared.Read.{Read}
-use Rattle.blockfile.specs.Format.{read_sizes, taken, read}
+use Rattle.blockfile.specs.Format.{Read, read_sizes, taken, read}
 use Rattle.blockfile.proofs.Outcome.{samples_long, file_cuts_long}
 use Rattle.blockfile.proofs.Longest.{Limited, limited}
 use Rattle.blockfile.proofs.Checked.{Readable, readable_as}
 use Rattle.blockfile.proofs.CutBytes.{bytes_front}
-use Rattle.fill_file.specs.declared.Summary.{Summary}
-use Rattle.fill_file.specs.program.Summary.{bench_limit, bench_points, bench_cuts, bench_rows, refusal, counted, fill_read}
+use Rattle.fill_file.specs.program.Summary.{Summary, bench_limit, bench_points, bench_cuts, bench_rows, refusal, counted, fill_read}
 use Rattle.bounds.specs.inner.Most.{rows_most}
 
 -- what is summed up of filling's answer
@@ -82,9 +80,6 @@ module _ {bytes : List ℕ} {r : Read} {samples : List ℤ} {cuts : List ℕ} (w
 
   read_as : Readable bytes bench_limit blank uncut (read_sizes r)
   read_as = readable_as bytes bench_limit blank uncut w.answer e
-
-  pub opened_sized : Sized (read_sizes r)
-  opened_sized = read_as.sized
 
   -- the tables hold the block
   pub opened_samples : n ≤ length samples

@@ -22,8 +22,7 @@ use Rattle.sums.proofs.Total.{total_above}
 use Rattle.blockfile.specs.Format as file
 use Rattle.blockfile.proofs.CutBytes.{bytes_zeros, read_bytes}
 use Rattle.fill_file.specs.program.Summary.{bench_limit, bench_cuts}
-use Rattle.volume_report.specs.declared.Entry.{Entry}
-use Rattle.volume_report.specs.program.Report.{opened, filled, measured, refusal, entry_from, entry_of}
+use Rattle.volume_report.specs.program.Report.{Entry, opened, filled, measured, refusal, entry_from, entry_of}
 use Rattle.volume_report.proofs.Opening.{opens, filled_ready, filled_encloses}
 
 -- the rows of the block in a file, and the places of their corners

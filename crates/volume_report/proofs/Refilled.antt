@@ -11,9 +11,8 @@ use Rattle.blockfile.specs.inner.Needs.{bench_longest, Held}
 use Rattle.blockfile.proofs.Longest.{bench_enough}
 use Rattle.blockfile.proofs.Holding.{held_read, held_all, held_some}
 use Rattle.fill_file.specs.program.Summary.{bench_limit}
-use Rattle.volume_report.specs.declared.Entry.{Entry}
 use Rattle.volume_report.specs.declared.Tally.{Tally}
-use Rattle.volume_report.specs.program.Report.{opened, entry_from, entry_of, line_of, counted, last_line, is_last}
+use Rattle.volume_report.specs.program.Report.{Entry, opened, entry_from, entry_of, line_of, counted, last_line, is_last}
 use Rattle.volume_report.specs.program.Report.{most_files, report_from, begun, report}
 use Rattle.volume_report.proofs.Counted.{files_more}
 use Rattle.volume_report.proofs.Ended.{entry_end, read_whole}

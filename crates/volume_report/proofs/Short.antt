@@ -7,9 +7,8 @@ use mathlib.Core.Bool.{Bool, true, false}
 use mathlib.Core.List.{List, [], ◌∷◌}
 use lib.ListN.{length, drop, length-drop}
 use Rattle.std.specs.Prelude.{if◌then◌else◌}
-use Rattle.volume_report.specs.declared.Entry.{Entry}
 use Rattle.volume_report.specs.declared.Tally.{Tally}
-use Rattle.volume_report.specs.program.Report.{entry_of, line_of, counted, last_line, is_last, most_files, report_from, begun, report}
+use Rattle.volume_report.specs.program.Report.{Entry, entry_of, line_of, counted, last_line, is_last, most_files, report_from, begun, report}
 use Rattle.volume_report.proofs.Ended.{entry_some}
 
 either_limit : (k j : ℕ) (t : Tally) (bytes : List ℕ) → length bytes ≤ k → length bytes ≤ j

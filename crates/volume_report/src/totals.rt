@@ -1,21 +1,31 @@
 // The totals of the week.
 ghost use Rattle.std.specs.Prelude.{◌≡◌, ◌<◌, ltb};
 ghost use Rattle.volume_report.specs.program.Report.{counted, is_last, begun, most_files};
+ghost use Rattle.volume_report.specs.inner.Answer.{answer_of};
 ghost use Rattle.volume_report.specs.inner.Small.{Small, Kept};
 
-use crate::{Entry, Tally};
+use crate::{Outcome, Tally};
 
 const MOST: u64 = 1000000;
 
+// Totals of so many files of 5 by 5 by 5 cubes that none of them overflows.
+#[derive(Clone, Copy)]
+pub struct Totals {
+    pub tally: Tally,
+    ghost kept: { Kept tally },
+}
+
 // No file yet.
-pub fn begin() -> Tally
-    ensures value { result ≡ begun }
-    ensures kept { Kept result }
+#[tactic(auto, unfolding(crate::specs::program::Report::begun))]
+pub fn begin() -> Totals
+    ensures { result.tally ≡ begun }
 {
-    Tally {
-        files: 0,
-        tetrahedra: 0,
-        sum: 0,
+    Totals {
+        tally: Tally {
+            files: 0,
+            tetrahedra: 0,
+            sum: 0,
+        },
     }
 }
 
@@ -26,37 +36,39 @@ pub fn goes_on(t: Tally) -> bool
     t.files < MOST
 }
 
-// One file more. Within a million files of 5 by 5 by 5 cubes no total overflows.
-pub fn count(t: Tally, e: Entry) -> Tally
-    requires kept { Kept t }
-    requires files_lt_most_files { t.files < most_files }
-    requires small { Small e }
-    ensures value { result ≡ counted t e }
-    ensures kept_2 { Kept result }
+// One file more.
+pub fn count(t: Totals, o: Outcome) -> Totals
+    requires files_lt_most_files { t.tally.files < most_files }
+    requires small { Small (answer_of o) }
+    ensures { result.tally ≡ counted t.tally (answer_of o) }
 {
-    if e.number != 0 {
-        return Tally {
-            files: t.files + 1,
-            tetrahedra: t.tetrahedra,
-            sum: t.sum,
+    let Tally {
+        files,
+        tetrahedra,
+        sum,
+    } = t.tally;
+    let Ok(v) = o.volumes else {
+        return Totals {
+            tally: Tally {
+                files: files + 1,
+                tetrahedra,
+                sum,
+            },
         };
-    }
-    Tally {
-        files: t.files + 1,
-        tetrahedra: t.tetrahedra + e.tetrahedra,
-        sum: t.sum + e.sum,
+    };
+    Totals {
+        tally: Tally {
+            files: files + 1,
+            tetrahedra: tetrahedra + v.tetrahedra,
+            sum: sum + v.sum,
+        },
     }
 }
 
 // A file refused with one of these numbers ends the report: where the next one starts is unknown.
+#[tactic(auto, unfolding(crate::specs::program::Report::is_last))]
 pub fn is_last(number: u32) -> bool
     ensures { result ≡ is_last number }
 {
-    if number == 1 {
-        return true;
-    }
-    if number == 11 {
-        return true;
-    }
-    number == 12
+    number == 1 || number == 11 || number == 12
 }

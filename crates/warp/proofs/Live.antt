@@ -6,8 +6,7 @@ use mathlib.Core.Path.{◌≡◌, refl, sym}
 use mathlib.Core.Bool.{true, false, not, ◌&&◌}
 use mathlib.Core.List.{List}
 use lib.ListN.{get_or}
-use Rattle.lattice.specs.declared.Near.{Near}
-use Rattle.lattice.specs.declared.Near.TheVariants.{At, Nothing}
+use Rattle.std.proofs.Common.{None, Option, Some}
 use Rattle.lattice.specs.Counts.{points}
 use Rattle.lattice.specs.Direction.{Code}
 use Rattle.lattice.specs.Edge.{neighbour}
@@ -33,9 +32,9 @@ module _ (m : Reading) {codes : List ℕ} (reached : Reached m (outset m) codes)
   unfolding open_along unfaded live_along live
   open_live c k = go (neighbour m.sizes p c) refl
     where
-      go : (n : Near) → neighbour m.sizes p c ≡ n → open_along codes p n ≡ live_along m.label codes p n
-      go Nothing e = refl
-      go (At q) e =
+      go : (n : Option ℕ) → neighbour m.sizes p c ≡ n → open_along codes p n ≡ live_along m.label codes p n
+      go None e = refl
+      go (Some q) e =
           let here = zero_said m reached p h in
           let there = zero_said m reached q (neighbour_lt m.sizes p c q h k e) in
           λ i. not (sym here i) && not (sym there i)

@@ -7,9 +7,9 @@ use mathlib.Core.List.{List}
 use lib.ListN.{length, get_or, set, length-set}
 use lib.Seq.{get_or-set_same, get_or-set_other}
 use borrow.Author.Tests.{le-leb, lt-leb}
+use Rattle.std.proofs.Common.{Some}
 use Rattle.basics.proofs.Test.{lt_or}
 use Rattle.lattice.specs.declared.Sizes.{Sizes}
-use Rattle.lattice.specs.declared.Near.TheVariants.{At}
 use Rattle.lattice.specs.declared.Site.{Site}
 use Rattle.lattice.specs.Direction.{Code, as_end, is_start, direction_of}
 use Rattle.lattice.specs.Edge.{near, edge_byte}
@@ -64,7 +64,7 @@ pub offsets_of : (s : Sizes) (q : Site) → Sited s q → {first k : ℕ} {back 
     → Written first back at k → 7 ≤ k → Offsets s q at
 offsets_of s q g {first = first} {back = back} {at = at} b f w h = record { byte = byte }
   where
-    byte : (c : ℕ) → Code c → (e : ℕ) → near s q.kind (index q) c ≡ At e → get_or at (c - 1) 0 ≡ edge_byte q.own c e
+    byte : (c : ℕ) → Code c → (e : ℕ) → near s q.kind (index q) c ≡ Some e → get_or at (c - 1) 0 ≡ edge_byte q.own c e
     byte c k e n =
         elim (lt_or 7 c) [
           | inl u ↦

@@ -2,13 +2,13 @@
 use Prim.Native.Nat.{ℕ, zero, suc, ◌+◌, ◌*◌, ◌-◌, ◌≤◌, ◌<◌}
 use native.Mathlib.Omega.{arith}
 use mathlib.Core.Path.{◌≡◌, refl, sym, ap, subst, ◌∙◌}
-use mathlib.Core.Logic.{inl, inr}
-use mathlib.Core.Bool.{false}
+use mathlib.Core.Logic.{◌⊎◌, inl, inr}
+use mathlib.Core.Bool.{true, false}
 use mathlib.Core.List.{List, [], ◌∷◌}
 use lib.ListN.{length, get_or, get_or-eq_default}
+use Rattle.std.proofs.Common.{Some}
 use Rattle.basics.proofs.Test.{lt_or}
 use Rattle.lattice.specs.declared.Sizes.{Sizes}
-use Rattle.lattice.specs.declared.Near.TheVariants.{At}
 use Rattle.lattice.specs.declared.Site.{Site}
 use Rattle.lattice.specs.Axis.{along_x}
 use Rattle.lattice.specs.Counts.{Sized, grid, points}
@@ -17,6 +17,7 @@ use Rattle.lattice.specs.Edge.{near, neighbour, edge_byte}
 use Rattle.lattice.specs.inner.Site.{Sited, index}
 use Rattle.lattice.proofs.Sites.{by_direction}
 use Rattle.moving.specs.Violation.{rule1, violation}
+use Rattle.moving.specs.State.{is_move}
 use Rattle.moving.specs.Nearest.{nearest}
 use Rattle.moving.specs.Reading.{Reading, cut_along, violation_by}
 use Rattle.moving.specs.Moving.{choice, outset}
@@ -29,9 +30,9 @@ use Rattle.lines.proofs.Points.{sited}
 use Rattle.lines.proofs.Lines.{line_stands, line_at_law}
 use Rattle.lines.proofs.Sites.{site_near}
 use Rattle.lines.proofs.FarEnds.{start_small, start_first, start_fourth, start_sixth, start_within}
-use Rattle.warp.specs.inner.Quick.{dead_along, Offsets, by_byte, Uncut, Bare}
+use Rattle.warp.specs.inner.Quick.{open_along, Offsets, by_byte, Uncut, Bare}
 use Rattle.warp.proofs.Offsets.{byte_start, byte_end}
-use Rattle.warp.proofs.Searching.{Stands, guess_none, guess_stands, not_dead, live_at}
+use Rattle.warp.proofs.Searching.{Stands, guess_none, guess_stands, live_at}
 
 -- a point without a cut does not move: a byte of 0 is no cut
 pub bare_stays : (m : Reading) (codes : List ℕ) (p : ℕ) → Bare m.sizes m.cuts p → choice m codes p ≡ 0
@@ -52,18 +53,18 @@ module _ (s : Sizes) (cuts : List ℕ) (q : Site) (h : Sized s) (g : Sited s q) 
   byte o = get_or cuts o 0
 
   bare_of : ((d : ℕ) → d < 7 → byte (7 * q.own + d) ≡ 0)
-      → ((d : ℕ) → d < 7 → (e : ℕ) → near s q.kind (index q) (as_end d) ≡ At e → byte (7 * e + d) ≡ 0)
+      → ((d : ℕ) → d < 7 → (e : ℕ) → near s q.kind (index q) (as_end d) ≡ Some e → byte (7 * e + d) ≡ 0)
       → Bare s cuts q.own
   bare_of starts ends = record { none = λ c k e n. blank c k e (sym (site_near s q h g c) ∙ n) }
     where
-      end : (c : ℕ) → 7 < c → c ≤ 14 → (d : ℕ) → as_end d ≡ c → (e : ℕ) → near s q.kind (index q) c ≡ At e
+      end : (c : ℕ) → 7 < c → c ≤ 14 → (d : ℕ) → as_end d ≡ c → (e : ℕ) → near s q.kind (index q) c ≡ Some e
           → byte (edge_byte q.own c e) ≡ 0
       end c l u d x e n =
           let way : c - 8 ≡ d = omega arith in
           ap byte (sym (byte_end q.own c e l u) ∙ ap (λ (k : ℕ). 7 * e + k) way)
           ∙ ends d (omega arith) e (ap (near s q.kind (index q)) x ∙ n)
 
-      blank : (c : ℕ) → Code c → (e : ℕ) → near s q.kind (index q) c ≡ At e → byte (edge_byte q.own c e) ≡ 0
+      blank : (c : ℕ) → Code c → (e : ℕ) → near s q.kind (index q) c ≡ Some e → byte (edge_byte q.own c e) ≡ 0
       blank c k e n =
           elim (lt_or 7 c) [
             | inl u ↦ end c u k.high (c - 8) (omega arith) e n
@@ -102,7 +103,7 @@ module _ (s : Sizes) (q : Site) (h : Sized s) (l : Line s q.own q) (cuts : List 
       g : Sited s (line_at q x)
       g = sited (line_at_law l x i)
 
-      within : (d : ℕ) → d < 7 → (e : ℕ) → near s q.kind (index (line_at q x)) (as_end d) ≡ At e
+      within : (d : ℕ) → d < 7 → (e : ℕ) → near s q.kind (index (line_at q x)) (as_end d) ≡ Some e
           → (get_or (starts_at s q) d 0 ≤ e) × (e ≤ get_or (starts_at s q) d 0 + x)
       within = start_within s q (sited (line_stands l)) x g
 
@@ -111,9 +112,9 @@ module _ (s : Sizes) (q : Site) (h : Sized s) (l : Line s q.own q) (cuts : List 
           → e ≤ get_or (ranges_from (starts_at s q)) k 0 + grid s q.kind along_x → get_or cuts (7 * e + d) 0 ≡ 0
       in_range k d e u v a b = (uncut k u).none e a b d v
 
-      zeros : (d : ℕ) → d < 7 → (e : ℕ) → near s q.kind (index (line_at q x)) (as_end d) ≡ At e → get_or cuts (7 * e + d) 0 ≡ 0
+      zeros : (d : ℕ) → d < 7 → (e : ℕ) → near s q.kind (index (line_at q x)) (as_end d) ≡ Some e → get_or cuts (7 * e + d) 0 ≡ 0
       zeros =
-          by_direction (λ d. (e : ℕ) → near s q.kind (index (line_at q x)) (as_end d) ≡ At e → get_or cuts (7 * e + d) 0 ≡ 0)
+          by_direction (λ d. (e : ℕ) → near s q.kind (index (line_at q x)) (as_end d) ≡ Some e → get_or cuts (7 * e + d) 0 ≡ 0)
           (λ e n. let v = within 0 (omega arith) e n in in_range 0 0 e (omega arith) (omega arith) v.0 (omega arith))
           (λ e n. let v = within 1 (omega arith) e n in in_range 1 1 e (omega arith) (omega arith) v.0 (omega arith))
           (λ e n. let v = within 2 (omega arith) e n in in_range 2 2 e (omega arith) (omega arith) v.0 (omega arith))
@@ -145,12 +146,12 @@ offset_byte m q at {c = c} i h g o k is e near =
 -- the nearest by the bytes, if there is none or its cut is live
 pub guess_at : (m : Reading) {codes : List ℕ} → Reached m (outset m) codes → (q : Site) (at : List ℕ) {p c : ℕ} → m.rule ≡ rule1
     → q.own ≡ p → p < points m.sizes → Sized m.sizes → Sited m.sizes q → Offsets m.sizes q at → c ≡ nearest (by_byte m.cuts at)
-    → dead_along codes q.own c (neighbour m.sizes q.own c) ≡ false → c ≡ nearest (violation_by m codes p)
+    → (is_move c ≡ false) ⊎ (Code c × (open_along codes q.own (neighbour m.sizes q.own c) ≡ true)) → c ≡ nearest (violation_by m codes p)
 unfolding by_byte
 guess_at m {codes} r q at {p} {c} rule i inside h g o e l =
     guess_stands m codes p byte (λ k code. offset_byte m q at i h g o code refl)
     (e ∙ (λ j. nearest (λ k. violation (sym rule j) k (byte k))))
-    (elim (not_dead codes q.own c _ l) [ inl z ↦ inl z | inr a ↦ inr (live_at m r c a.0 i inside a.1) ])
+    (elim l [ inl z ↦ inl z | inr a ↦ inr (live_at m r c a.0 i inside a.1) ])
   where
     byte : ℕ → ℕ
     byte k = get_or m.cuts (get_or at (k - 1) 0) 0

@@ -2,52 +2,51 @@
 --     Searching                          the search has come to a code: search_starts, search_nearer, search_keeps, search_ends
 --     by_byte_law                            a cut that is live violates as its byte does, any other not at all; so by_far, when_dead
 --     guess_none, guess_stands           so if nothing violates by the bytes nothing does, and the nearest by the bytes is the nearest if it is live
---     byte_of, Stands, not_dead, live_at what the code asks, in the definitions' terms
+--     byte_of, Stands, live_at, chosen_new what the code asks, in the definitions' terms
 use Prim.Native.Nat.{ℕ, suc, ◌+◌, ◌-◌, ◌≤◌, ◌<◌}
 use native.Mathlib.Omega.{arith}
 use mathlib.Core.Path.{◌≡◌, refl, sym, ap, subst, ◌∙◌}
 use mathlib.Core.Logic.{◌⊎◌, inl, inr}
-use mathlib.Core.Bool.{Bool, true, false, not}
+use mathlib.Core.Bool.{Bool, true, false, ◌&&◌}
 use mathlib.Core.List.{List}
 use lib.ListN.{get_or}
-use lib.Dec.{T}
-use Rattle.std.specs.Prelude.{if◌then◌else◌}
+use lib.Dec.{T, leb}
+use borrow.Author.Tests.{le-leb}
+use Rattle.std.specs.Prelude.{if◌then◌else◌, Option, Some, None, is_some, IfSome}
 use Rattle.basics.proofs.Test.{lt_or}
-use Rattle.lattice.specs.declared.Near.{Near}
-use Rattle.lattice.specs.declared.Near.TheVariants.{At, Nothing}
 use Rattle.lattice.specs.Counts.{points}
 use Rattle.lattice.specs.Direction.{Code}
 use Rattle.lattice.specs.Edge.{neighbour}
-use Rattle.moving.specs.declared.Violation.{Violation}
-use Rattle.moving.specs.declared.Violation.TheVariants.{No}
+use Rattle.lattice.specs.declared.edge_code.EdgeCode.{EdgeCode}
 use Rattle.moving.specs.Violation.{rule1, violation}
 use Rattle.moving.specs.State.{is_move}
 use Rattle.moving.specs.Nearest.{nearer, by_code, nearest_to, nearest}
 use Rattle.moving.specs.Reading.{Reading, cut_along, violation_along, violation_by}
 use Rattle.moving.specs.Moving.{choice, outset}
 use Rattle.moving.proofs.Settled.{Reached}
-use Rattle.moving.proofs.Bytes.{code_move, move_code}
+use Rattle.moving.proofs.Bytes.{code_move}
 use Rattle.moving.proofs.Nearest.{nearest_le, fewer_none, fewer_same}
-use Rattle.warp.specs.inner.Quick.{live_along, open_along, dead_along, by_byte}
+use Rattle.warp.specs.inner.Quick.{live_along, open_along, by_byte}
+use Rattle.warp.specs.inner.Turns.{chosen}
 use Rattle.warp.proofs.Live.{open_live}
 
 -- the search has come to a code: of those before it, `found` is the nearest, and `best` says how near it is, if any are left
-pub record Searching (by : ℕ → Violation) (found : ℕ) (best : Violation) (c : ℕ) : Type 0 where
+pub record Searching (by : ℕ → Option ℕ) (found : ℕ) (best : Option ℕ) (c : ℕ) : Type 0 where
   pub low : 1 ≤ c
   pub high : c ≤ 15
   pub is : found ≡ nearest_to by (c - 1)
   pub how : c ≤ 14 → best ≡ by_code by found
 
-pub search_starts : {by : ℕ → Violation} {found c : ℕ} → found ≡ 0 → c ≡ 1 → Searching by found No c
+pub search_starts : {by : ℕ → Option ℕ} {found c : ℕ} → found ≡ 0 → c ≡ 1 → Searching by found None c
 unfolding nearest_to is_move
 search_starts e f =
     rw (e, f) (record { low = omega arith; high = omega arith; is = refl; how = λ l. refl })
 
 -- nothing is left to be asked
-pub search_whole : {by : ℕ → Violation} {found c : ℕ} {best : Violation} → found ≡ nearest by → c ≡ 15 → Searching by found best c
+pub search_whole : {by : ℕ → Option ℕ} {found c : ℕ} {best : Option ℕ} → found ≡ nearest by → c ≡ 15 → Searching by found best c
 search_whole e f = rw f (record { low = omega arith; high = omega arith; is = e; how = λ l. absurd (omega arith) })
 
-module _ {by : ℕ → Violation} {found : ℕ} {best : Violation} {c : ℕ} (i : Searching by found best c) where
+module _ {by : ℕ → Option ℕ} {found : ℕ} {best : Option ℕ} {c : ℕ} (i : Searching by found best c) where
   step : c ≤ 14 → nearest_to by (c + 1 - 1) ≡ (if nearer (by c) best then c else found)
   unfolding nearest_to
   step l =
@@ -55,7 +54,7 @@ module _ {by : ℕ → Violation} {found : ℕ} {best : Violation} {c : ℕ} (i 
       let f : suc (c - 1) ≡ c = omega (arith, i.low) in
       rw (e, i.how l, i.is, f) refl
 
-  pub search_nearer : {found' : ℕ} {best' v : Violation} → c ≤ 14 → v ≡ by c → nearer v best ≡ true → found' ≡ c → best' ≡ v
+  pub search_nearer : {found' : ℕ} {best' v : Option ℕ} → c ≤ 14 → v ≡ by c → nearer v best ≡ true → found' ≡ c → best' ≡ v
       → Searching by found' best' (c + 1)
   search_nearer l e n f g =
       record {
@@ -65,7 +64,7 @@ module _ {by : ℕ → Violation} {found : ℕ} {best : Violation} {c : ℕ} (i 
         how = λ u. g ∙ e ∙ rw (f, code_move c (record { low = i.low; high = l })) refl;
       }
 
-  pub search_keeps : {found' : ℕ} {best' : Violation} → c ≤ 14 → nearer (by c) best ≡ false → found' ≡ found → best' ≡ best
+  pub search_keeps : {found' : ℕ} {best' : Option ℕ} → c ≤ 14 → nearer (by c) best ≡ false → found' ≡ found → best' ≡ best
       → Searching by found' best' (c + 1)
   search_keeps l n f g =
       record {
@@ -82,7 +81,7 @@ module _ {by : ℕ → Violation} {found : ℕ} {best : Violation} {c : ℕ} (i 
   search_ends l = let e : c - 1 ≡ 14 = omega (arith, i.high) in rw e at i.is
 
 -- the byte of a code by the place in the list of offsets
-pub byte_of : (cuts at : List ℕ) (k : ℕ) {t : ℕ} {v : Violation} → t ≡ get_or cuts (get_or at k 0) 0 → v ≡ violation rule1 (k + 1) t
+pub byte_of : (cuts at : List ℕ) (k : ℕ) {t : ℕ} {v : Option ℕ} → t ≡ get_or cuts (get_or at k 0) 0 → v ≡ violation rule1 (k + 1) t
     → v ≡ by_byte cuts at (k + 1)
 unfolding by_byte
 byte_of cuts at k e f =
@@ -91,45 +90,45 @@ byte_of cuts at k e f =
 
 -- the byte t stands for the edge from p by a code, if there is one
 abbrev pub Stands : Reading → ℕ → ℕ → ℕ → Type 0
-Stands m p c t = (q : ℕ) → neighbour m.sizes p c ≡ At q → t ≡ cut_along m p c q
+Stands m p c t = (q : ℕ) → neighbour m.sizes p c ≡ Some q → t ≡ cut_along m p c q
 
 module _ (m : Reading) (codes : List ℕ) (p : ℕ) where
   abbrev lives : ℕ → Bool
   lives c = live_along m.label codes p (neighbour m.sizes p c)
 
   pub by_byte_law : (c : ℕ) {t : ℕ} → Stands m p c t → (b : Bool) → lives c ≡ b
-      → violation_by m codes p c ≡ (if b then violation m.rule c t else No)
+      → violation_by m codes p c ≡ (if b then violation m.rule c t else None)
   unfolding violation_along live_along
   by_byte_law c {t} byte b = go (neighbour m.sizes p c) refl
     where
-      go : (n : Near) → neighbour m.sizes p c ≡ n → live_along m.label codes p n ≡ b
-          → violation_along m codes p c n ≡ (if b then violation m.rule c t else No)
-      go Nothing e l = rw (← l) refl
-      go (At q) e l = rw (l, byte q e) refl
+      go : (n : Option ℕ) → neighbour m.sizes p c ≡ n → live_along m.label codes p n ≡ b
+          → violation_along m codes p c n ≡ (if b then violation m.rule c t else None)
+      go None e l = rw (← l) refl
+      go (Some q) e l = rw (l, byte q e) refl
 
-  by_byte_or : (c : ℕ) {t : ℕ} → Stands m p c t → (violation_by m codes p c ≡ violation m.rule c t) ⊎ (violation_by m codes p c ≡ No)
+  by_byte_or : (c : ℕ) {t : ℕ} → Stands m p c t → (violation_by m codes p c ≡ violation m.rule c t) ⊎ (violation_by m codes p c ≡ None)
   by_byte_or c {t} byte = go (lives c) refl
     where
-      go : (b : Bool) → lives c ≡ b → (violation_by m codes p c ≡ violation m.rule c t) ⊎ (violation_by m codes p c ≡ No)
+      go : (b : Bool) → lives c ≡ b → (violation_by m codes p c ≡ violation m.rule c t) ⊎ (violation_by m codes p c ≡ None)
       go true l = inl (by_byte_law c byte true l)
       go false l = inr (by_byte_law c byte false l)
 
   -- a cut whose byte is no nearer is no nearer, nor is one that is not live
-  pub by_far : (c : ℕ) {t : ℕ} → Stands m p c t → (w : Violation) → nearer (violation m.rule c t) w ≡ false
+  pub by_far : (c : ℕ) {t : ℕ} → Stands m p c t → (w : Option ℕ) → nearer (violation m.rule c t) w ≡ false
       → nearer (violation_by m codes p c) w ≡ false
   unfolding nearer
   by_far c byte w e = elim (by_byte_or c byte) [ inl s ↦ rw s e | inr z ↦ rw z refl ]
 
-  pub when_dead : (c : ℕ) {t : ℕ} → Stands m p c t → (w : Violation) → lives c ≡ false → nearer (violation_by m codes p c) w ≡ false
+  pub when_dead : (c : ℕ) {t : ℕ} → Stands m p c t → (w : Option ℕ) → lives c ≡ false → nearer (violation_by m codes p c) w ≡ false
   unfolding nearer
   when_dead c byte w l = rw (by_byte_law c byte false l) refl
 
   -- the bytes of all codes
   module _ (t : ℕ → ℕ) (bytes : (c : ℕ) → Code c → Stands m p c (t c)) where
-    abbrev guessed : ℕ → Violation
+    abbrev guessed : ℕ → Option ℕ
     guessed c = violation m.rule c (t c)
 
-    fewer : (c : ℕ) → 1 ≤ c → c ≤ 14 → (violation_by m codes p c ≡ guessed c) ⊎ (violation_by m codes p c ≡ No)
+    fewer : (c : ℕ) → 1 ≤ c → c ≤ 14 → (violation_by m codes p c ≡ guessed c) ⊎ (violation_by m codes p c ≡ None)
     fewer c l u = by_byte_or c (bytes c (record { low = l; high = u }))
 
     pub guess_none : nearest guessed ≡ 0 → choice m codes p ≡ 0
@@ -148,20 +147,16 @@ module _ (m : Reading) (codes : List ℕ) (p : ℕ) where
               z ∙ sym (fewer_none guessed (violation_by m codes p) 14 (omega arith) fewer (sym e ∙ z))
         ]
 
--- the code is no move, or its cut is live
-pub not_dead : (codes : List ℕ) (p c : ℕ) (n : Near) → dead_along codes p c n ≡ false
-    → (is_move c ≡ false) ⊎ (Code c × (open_along codes p n ≡ true))
-unfolding dead_along
-not_dead codes p c n e = go (is_move c) refl (open_along codes p n) refl e
-  where
-    go : (z : Bool) → is_move c ≡ z → (b : Bool) → open_along codes p n ≡ b → (if z then not b else false) ≡ false
-        → (is_move c ≡ false) ⊎ (Code c × (open_along codes p n ≡ true))
-    go false z b l e = inl z
-    go true z true l e = inr (move_code c z, l)
-    go true z false l e = inr (move_code c z, l ∙ sym e)
-
 -- what the code asks of the cut by a code at a site with the number p
 pub live_at : (m : Reading) {codes : List ℕ} → Reached m (outset m) codes → (c : ℕ) → Code c → {own p : ℕ} {b : Bool} → own ≡ p
     → p < points m.sizes → open_along codes own (neighbour m.sizes own c) ≡ b → live_along m.label codes p (neighbour m.sizes p c) ≡ b
 live_at m {codes} r c k {p = p} {b = b} i h e =
     sym (open_live m r p h c k) ∙ subst (λ (n : ℕ). open_along codes n (neighbour m.sizes n c) ≡ b) i e
+
+-- the code that is handed on is the one that was found, and none stands for 0
+pub chosen_new : (r : Option EdgeCode) {n : ℕ} → n ≤ 14 → is_some r ≡ (leb 1 n && leb n 14) → IfSome r (λ c. c.code ≡ n) → chosen r ≡ n
+chosen_new (Some c) h e f = f
+chosen_new None {n} h e f = elim (lt_or 0 n) [ inl l ↦ absurd (some l) | inr l ↦ omega arith ]
+  where
+    some : 1 ≤ n → ⊥
+    some l = let t : false ≡ true = e ∙ simp (le-leb 1 n l, le-leb n 14 h) in subst T (sym t) tt

@@ -2,7 +2,8 @@
 use Prim.Native.Nat.{ℕ, zero, suc, ◌+◌, ◌≤◌, ◌<◌}
 use native.Mathlib.Numerals.{add-one}
 use native.Mathlib.Omega.{arith}
-use mathlib.Core.Path.{◌≡◌, sym, ap, subst, ◌∙◌}
+use mathlib.Core.Path.{◌≡◌, refl, sym, ap, subst, ◌∙◌}
+use Rattle.std.proofs.Common.{Option, Some, None}
 use mathlib.Core.Logic.{inl, inr}
 use mathlib.Core.Bool.{true, false}
 use mathlib.Core.List.{List, [], ◌∷◌, ◌++◌, map, map-append}
@@ -11,11 +12,13 @@ use lib.ListN.{length, get_or, set, take, length-map}
 use lib.Seq.{take_all, take-suc-set}
 use Rattle.basics.specs.Lists.{from, below}
 use Rattle.lattice.specs.declared.Site.{Site}
+use Rattle.lattice.specs.declared.edge_code.EdgeCode.{EdgeCode}
 use Rattle.lattice.specs.Axis.{along_x}
 use Rattle.basics.proofs.Test.{lt_or}
 use Rattle.basics.proofs.Mapped.{from_length}
 use Rattle.lattice.specs.Counts.{Sized, grid, points}
 use Rattle.lattice.specs.Direction.{Code}
+use Rattle.lattice.specs.inner.Site.{Sited}
 use Rattle.moving.specs.declared.Label.{Label}
 use Rattle.moving.specs.State.{is_move}
 use Rattle.moving.specs.Reading.{Reading}
@@ -28,8 +31,10 @@ use Rattle.moving.proofs.Moved.{outset_none, state_at_long, state_at_suc, state_
 use Rattle.filling.specs.Fill.{moved_count}
 use Rattle.ranges.specs.inner.Blank.{Blank}
 use Rattle.lines.specs.inner.Lines.{Line}
-use Rattle.lines.proofs.Lines.{line_own, line_fits}
+use Rattle.lines.proofs.Lines.{line_own}
+use Rattle.lines.proofs.Sites.{site_lt}
 use Rattle.warp.specs.inner.Quick.{Bare, outset_of}
+use Rattle.warp.specs.inner.Turns.{chosen, Turn}
 use Rattle.warp.proofs.Counted.{counted_move, counted_few, counted_none}
 use Rattle.warp.proofs.Quiet.{bare_stays, bare_table}
 
@@ -84,6 +89,18 @@ module _ (m : Reading) where
       ∙ rests (p + n) (bare_stays m (state_at m (p + n)) (p + n) (b n (omega arith)))
       ∙ bare_passed p n (λ x l. b x (omega arith))
 
+  -- a turn starts from a table that moves have reached
+  module _ {q : Site} {state : List ℕ} (t : Turn m q state) where
+    pub turn_long : length state ≡ points m.sizes
+    turn_long = ap length t.state_is ∙ state_at_long m q.own
+
+    module _ (z : Sized m.sizes) where
+      pub turn_below : q.own < points m.sizes
+      turn_below = site_lt m.sizes q z t.sited
+
+      pub turn_reached : Reached m (outset m) state
+      turn_reached = subst (Reached m (outset m)) (sym t.state_is) (state_at_reached m q.own (omega (arith, turn_below)))
+
   -- x of the points of a line have had their turns, and those that moved are counted
   pub record Walked (own len : ℕ) (before state : List ℕ) (moved x : ℕ) : Type 0 where
     pub high : x ≤ len
@@ -98,6 +115,10 @@ module _ (m : Reading) where
   module _ {own len : ℕ} {before state : List ℕ} {moved x : ℕ} (w : Walked own len before state moved x) (h : x < len) where
     abbrev p : ℕ
     p = own + x
+
+    -- the next of its points takes its turn
+    pub walked_turn : {q : Site} → q.own ≡ own + x → Sited m.sizes q → Turn m q state
+    walked_turn e g = record { sited = g; state_is = w.is ∙ ap (state_at m) (sym e) }
 
     pub walked_long : length state ≡ points m.sizes
     walked_long = ap length w.is ∙ state_at_long m p
@@ -147,104 +168,86 @@ module _ (m : Reading) where
         one : moved_count (set state p c) ≡ moved_count state + 1
         one = counted_move state p c (walked_inside l) ahead code
 
+    -- the same from what the turn of the point at `here` chose
+    module _ {here : ℕ} (o : Option EdgeCode) (at : here ≡ own + x) (e : chosen o ≡ choice m state here) where
+      its : choice m state (own + x) ≡ chosen o
+      its = ap (choice m state) (sym at) ∙ sym e
+
+      pub walked_stays : {more : ℕ} {after : List ℕ} → o ≡ None → after ≡ state → more ≡ moved → Walked own len before after more (x + 1)
+      unfolding is_move
+      walked_stays n f g = walked_rests (its ∙ ap chosen n) (omega arith) refl f g
+
+      pub walked_goes : {more : ℕ} {after : List ℕ} {c : EdgeCode} → own + len ≤ points m.sizes → o ≡ Some c → after ≡ set state here c.code → more ≡ moved + 1
+          → Walked own len before after more (x + 1)
+      walked_goes {c = c} l n f g =
+          walked_moves l (its ∙ ap chosen n) (code_move c.code c.names_edge) (f ∙ ap (λ (p : ℕ). set state p c.code) at) g
+
   -- the whole line has had its turns
   pub walked_whole : {own len : ℕ} {before state : List ℕ} {moved x : ℕ} → Walked own len before state moved x
       → len ≤ x → (g : ℕ) → len ≡ g → state ≡ state_at m (own + g)
   walked_whole {own} {x = x} w h g e = let all : own + x ≡ own + g = omega (arith, w.high) in w.is ∙ ap (state_at m) all
 
-  -- the points before p have had their turns, and the line from p on is the next
-  pub record Warped (n : ℕ) (state : List ℕ) (q : Site) (moved p : ℕ) : Type 0 where
-    pub high : p ≤ n
-    pub is : state ≡ state_at m p
-    pub counted : moved ≡ moved_count state
-    pub line : p < n → Line m.sizes p q
-
-  -- none has, and the table is that of the outset
-  module _ {state : List ℕ} (e : state ≡ outset_of m.label (points m.sizes)) where
-    none_yet : state ≡ state_at m 0
-    unfolding outset_of outset state_at move_by from
-    none_yet = e
-
-    none_counted : 0 ≡ moved_count state
-    unfolding outset_of outset
-    none_counted = sym (counted_none m) ∙ ap moved_count (sym e)
-
-    pub warped_starts : {n : ℕ} {q : Site} → Line m.sizes 0 q → Warped n state q 0 0
-    warped_starts l = record { high = omega arith; is = none_yet; counted = none_counted; line = λ h. l }
-
-    -- without a cut none will
-    pub warped_never : Blank m.cuts 0 (length m.cuts) → (state ≡ state_of m) × (0 ≡ moved_count (state_of m))
-    warped_never z = (is, none_counted ∙ ap moved_count is)
-      where
-        is : state ≡ state_of m
-        is =
-            let e : 0 + points m.sizes ≡ points m.sizes = omega arith in
-            none_yet ∙ sym (bare_passed 0 (points m.sizes) (λ x l. bare_table m.sizes m.cuts (0 + x) z)) ∙ ap (state_at m) e
-
-  -- after a line: its points have had their turns too
+  -- the points before p have had their turns
   pub record Passed (p : ℕ) (state : List ℕ) (moved : ℕ) : Type 0 where
     pub is : state ≡ state_at m p
     pub counted : moved ≡ moved_count state
 
-  module _ {n : ℕ} {state : List ℕ} {q : Site} {moved p : ℕ} (w : Warped n state q moved p) where
-    pub warped_long : length state ≡ points m.sizes
-    warped_long = ap length w.is ∙ state_at_long m p
+  -- none has, and the table is that of the outset
+  module _ {state : List ℕ} (e : state ≡ outset_of m.label (points m.sizes)) where
+    pub none_passed : Passed 0 state 0
+    unfolding outset_of outset state_at move_by from
+    none_passed = record { is = e; counted = none_counted }
+      where
+        none_counted : 0 ≡ moved_count state
+        none_counted = sym (counted_none m) ∙ ap moved_count (sym e)
+
+    -- without a cut none will
+    pub never_moved : Blank m.cuts 0 (length m.cuts) → (state ≡ state_of m) × (0 ≡ moved_count (state_of m))
+    never_moved z = (is, none_passed.counted ∙ ap moved_count is)
+      where
+        is : state ≡ state_of m
+        is =
+            let e : 0 + points m.sizes ≡ points m.sizes = omega arith in
+            none_passed.is ∙ sym (bare_passed 0 (points m.sizes) (λ x l. bare_table m.sizes m.cuts (0 + x) z)) ∙ ap (state_at m) e
+
+  module _ {state : List ℕ} {moved p : ℕ} (w : Passed p state moved) where
+    pub passed_long : length state ≡ points m.sizes
+    passed_long = ap length w.is ∙ state_at_long m p
 
     -- no more points have moved than there are
-    pub warped_few : {walked : List ℕ} (k r : ℕ) → walked ≡ state_at m k → r + moved_count state ≡ moved_count walked
+    pub passed_few : {walked : List ℕ} (k r : ℕ) → walked ≡ state_at m k → r + moved_count state ≡ moved_count walked
         → moved + r ≤ points m.sizes
-    warped_few {walked} k r e d = omega (arith, w.counted, counted_few walked, ap length e, state_at_long m k)
+    passed_few {walked} k r e d = omega (arith, w.counted, counted_few walked, ap length e, state_at_long m k)
 
     -- all points have had their turns
-    pub warped_whole : n ≤ p → n ≡ points m.sizes → (state ≡ state_of m) × (moved ≡ moved_count (state_of m))
-    warped_whole h e =
-        let all : p ≡ points m.sizes = omega (arith, w.high) in
-        let is : state ≡ state_of m = w.is ∙ ap (state_at m) all in
+    pub passed_whole : p ≡ points m.sizes → (state ≡ state_of m) × (moved ≡ moved_count (state_of m))
+    passed_whole e =
+        let is : state ≡ state_of m = w.is ∙ ap (state_at m) e in
         (is, w.counted ∙ ap moved_count is)
 
-    module _ (h : p < n) where
-      own : q.own ≡ p
-      own = line_own (w.line h)
+    -- a line more
+    module _ {q : Site} (line : Line m.sizes p q) where
+      -- the table, by the line's own number
+      pub passed_state : state ≡ state_at m q.own
+      passed_state = w.is ∙ ap (state_at m) (sym (line_own line))
 
-      -- the line, and the table, by the line's own number
-      pub warped_line : Line m.sizes q.own q
-      warped_line = subst (λ (k : ℕ). Line m.sizes k q) (sym own) (w.line h)
+      after : q.own + grid m.sizes q.kind along_x ≡ p + grid m.sizes q.kind along_x
+      after = ap (λ (n : ℕ). n + grid m.sizes q.kind along_x) (line_own line)
 
-      pub warped_state : state ≡ state_at m q.own
-      warped_state = w.is ∙ ap (state_at m) (sym own)
+      pub passed_bare : {state' : List ℕ} {moved' : ℕ}
+          → ((x : ℕ) → x < grid m.sizes q.kind along_x → Bare m.sizes m.cuts (q.own + x))
+          → state' ≡ state → moved' ≡ moved → Passed (p + grid m.sizes q.kind along_x) state' moved'
+      passed_bare b f g =
+          record {
+            is = f ∙ passed_state ∙ sym (bare_passed q.own (grid m.sizes q.kind along_x) b) ∙ ap (state_at m) after;
+            counted = g ∙ w.counted ∙ ap moved_count (sym f);
+          }
 
-      module _ {len : ℕ} (e : len ≡ grid m.sizes q.kind along_x) where
-        pub warped_fits : Sized m.sizes → n ≡ points m.sizes → p + len ≤ n
-        warped_fits z f = omega (arith, line_fits (w.line h) z)
-
-        after : q.own + grid m.sizes q.kind along_x ≡ p + len
-        after = omega (arith, own)
-
-        pub passed_bare : {state' : List ℕ} {moved' : ℕ}
-            → ((x : ℕ) → x < grid m.sizes q.kind along_x → Bare m.sizes m.cuts (q.own + x))
-            → state' ≡ state → moved' ≡ moved → Passed (p + len) state' moved'
-        passed_bare b f g =
-            record {
-              is = f ∙ warped_state ∙ sym (bare_passed q.own (grid m.sizes q.kind along_x) b) ∙ ap (state_at m) after;
-              counted = g ∙ w.counted ∙ ap moved_count (sym f);
-            }
-
-        pub passed_walked : {state' walked : List ℕ} {moved' : ℕ} (r : ℕ)
-            → walked ≡ state_at m (q.own + grid m.sizes q.kind along_x) → r + moved_count state ≡ moved_count walked
-            → state' ≡ walked → moved' ≡ moved + r → Passed (p + len) state' moved'
-        passed_walked r k d f g =
-            record {
-              is = f ∙ k ∙ ap (state_at m) after;
-              counted = omega (arith, w.counted, ap moved_count f);
-            }
-
-        -- on to the next line, or to the end
-        pub warped_next : {state' : List ℕ} {q' : Site} {moved' p' : ℕ} → Passed (p + len) state' moved' → p' ≡ p + len → p' ≤ n
-            → (p' < n → Line m.sizes (q.own + grid m.sizes q.kind along_x) q') → Warped n state' q' moved' p'
-        warped_next {state'} {q'} a f l on =
-            record {
-              high = l;
-              is = a.is ∙ ap (state_at m) (sym f);
-              counted = a.counted;
-              line = λ u. subst (λ (k : ℕ). Line m.sizes k q') (after ∙ sym f) (on u);
-            }
+      pub passed_walked : {state' walked : List ℕ} {moved' : ℕ} (r : ℕ)
+          → walked ≡ state_at m (q.own + grid m.sizes q.kind along_x) → r + moved_count state ≡ moved_count walked
+          → state' ≡ walked → moved' ≡ moved + r → Passed (p + grid m.sizes q.kind along_x) state' moved'
+      passed_walked r k d f g =
+          record {
+            is = f ∙ k ∙ ap (state_at m) after;
+            counted = omega (arith, w.counted, ap moved_count f);
+          }

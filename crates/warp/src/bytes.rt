@@ -2,23 +2,23 @@
 // edges exist.
 ghost use Rattle.std.specs.Prelude.{◌≡◌, true, ℕ, ◌+◌, ◌<◌, ◌≤◌, get_or};
 ghost use Rattle.lattice.specs.Axis.{along_x};
-ghost use Rattle.lattice.specs.Counts.{Sized, grid};
+ghost use Rattle.lattice.specs.Counts.{grid};
 ghost use Rattle.lattice.specs.inner.Site.{Sited};
-ghost use Rattle.lines.specs.inner.Strides.{range_most};
 ghost use Rattle.lines.specs.inner.Lines.{Line};
+ghost use Rattle.lines.specs.inner.Strides.{range_most};
 ghost use Rattle.warp.specs.inner.Quick.{Offsets, Uncut, Bare};
 
-use lattice::{Site, Sizes};
+use lattice::{Lattice, Site};
 use lines::{strides, walk};
 
 // Where the bytes of a point's fourteen edges stand, by code, each if its edge exists: the seven of
 // the point itself, and those of the starts of the edges that end there.
-pub fn offsets(s: Sizes, q: Site) -> [usize; 14]
-    requires sized { Sized s }
-    requires sited { Sited s q }
-    ensures { Offsets s q result }
+// (By the direction: two entries are written for each, seven apart.)
+pub fn offsets(lattice: Lattice, q: Site) -> [usize; 14]
+    requires { Sited lattice.sizes q }
+    ensures { Offsets lattice.sizes q result }
 {
-    let back = strides::behind(s, q);
+    let back = strides::behind(lattice, q);
     let first = 7 * q.own;
     let mut at = [0usize; 14];
     for d in 0..7 {
@@ -32,10 +32,7 @@ pub fn offsets(s: Sizes, q: Site) -> [usize; 14]
 pub fn cut_at(cuts: &[u8], at: usize) -> u8
     ensures { result ≡ get_or cuts.now at 0 }
 {
-    if at < cuts.len() {
-        return cuts[at];
-    }
-    0
+    cuts.get(at).copied().unwrap_or(0)
 }
 
 // No cut starts at any of m + 1 points from one on.
@@ -48,17 +45,15 @@ fn is_uncut(cuts: &[u8], from: usize, m: usize) -> bool
 
 // No cut on any edge of a line of points: none starts on the line, nor where an edge that ends on it
 // starts. Those starts stand side by side, so five ranges hold them all.
-pub fn is_bare_line(s: Sizes, cuts: &[u8], q: Site) -> bool
-    requires sized { Sized s }
-    requires line { Line s q.own q }
-    ensures { result ≡ true → (x : ℕ) → x < grid s q.kind along_x → Bare s cuts.now (q.own + x) }
+pub fn is_bare_line(lattice: Lattice, cuts: &[u8], q: Site) -> bool
+    requires { Line lattice.sizes q.own q }
+    ensures { result ≡ true → (x : ℕ) → x < grid lattice.sizes q.kind along_x → Bare lattice.sizes cuts.now (q.own + x) }
 {
-    let kind = q.kind;
-    let m = walk::line_length(s, kind);
-    let back = strides::behind(s, q);
+    let m = walk::line_length(lattice, q.kind);
+    let back = strides::behind(lattice, q);
     let firsts = [back[0], back[1], back[2], back[3], back[5]];
-    for k in 0..5 {
-        if !is_uncut(cuts, firsts[k], m) {
+    for first in firsts {
+        if !is_uncut(cuts, first, m) {
             return false;
         }
     }

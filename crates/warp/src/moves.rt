@@ -1,121 +1,118 @@
 // Which points move, and by which code.
 ghost use Rattle.std.specs.Prelude.{◌≡◌, ◌+◌, ◌<◌, ◌≤◌, length};
 ghost use Rattle.lattice.specs.Axis.{along_x};
-ghost use Rattle.lattice.specs.Counts.{Sized, grid, points};
-ghost use Rattle.lattice.specs.Direction.{Code};
+ghost use Rattle.lattice.specs.Counts.{grid, points};
 ghost use Rattle.lattice.specs.Edge.{neighbour};
 ghost use Rattle.lattice.specs.inner.Site.{Sited};
-ghost use Rattle.moving.specs.Label.{labels, band_most};
+ghost use Rattle.moving.specs.Label.{band_most};
 ghost use Rattle.moving.specs.Nearest.{nearest};
-ghost use Rattle.moving.specs.Moving.{state_at, state_of};
-ghost use Rattle.moving.specs.Block.{block_of, reading_of, Tabled};
+ghost use Rattle.moving.specs.Moving.{choice, state_at, state_of};
+ghost use Rattle.moving.specs.Block.{reading_of};
 ghost use Rattle.filling.specs.Fill.{moved_count};
+ghost use Rattle.labelling.specs.inner.Scans.{label_in, block_in};
 ghost use Rattle.lines.specs.inner.Lines.{Line};
-ghost use Rattle.warp.specs.inner.Quick.{unfaded, open_along, dead_along, by_byte, outset_of};
+ghost use Rattle.warp.specs.inner.Quick.{unfaded, open_along, by_byte, outset_of, Offsets};
+ghost use Rattle.warp.specs.inner.Turns.{chosen, Turn};
 
 use crate::bytes;
+use labelling::scan::Scan;
 use labelling::{codes, violation};
-use lattice::{Near, Site, Sizes, counts, edges, numbers};
+use lattice::{EdgeCode, Lattice, Site};
 use lines::walk;
-use moving::Violation;
+use lines::walk::Lines;
 
 // A cut between p and q is live: neither label is zero, and the state bytes tell.
 fn is_live(state: &[u8], p: usize, q: usize) -> bool
     requires { (p < length state.now) × (q < length state.now) }
     ensures { result ≡ unfaded state.now p q }
 {
-    if codes::says_zero(state[p]) {
-        return false;
-    }
-    !codes::says_zero(state[q])
+    !codes::says_zero(state[p]) && !codes::says_zero(state[q])
 }
 
 // The edge from a point by a code exists, and its cut is live.
-fn is_live_by(s: Sizes, state: &[u8], q: Site, code: usize) -> bool
-    requires sized { Sized s }
-    requires state_len { length state.now ≡ points s }
-    requires code { Code code }
-    requires sited { Sited s q }
-    ensures { result ≡ open_along state.now q.own (neighbour s q.own code) }
+fn is_live_by(lattice: Lattice, state: &[u8], q: Site, code: EdgeCode) -> bool
+    requires sited { Sited lattice.sizes q }
+    requires state_len { length state.now ≡ points lattice.sizes }
+    ensures { result ≡ open_along state.now q.own (neighbour lattice.sizes q.own code.code) }
 {
-    let far = edges::neighbour(s, q, code);
-    match far {
-        Near::Nothing => false,
-        Near::At(e) => is_live(state, q.own, e),
+    match lattice.neighbour(q, code) {
+        Some(far) => is_live(state, q.own, far),
+        None => false,
     }
 }
 
-// The code whose byte violates the point and is the nearest, whatever the labels, or 0. No test ends
+// The code whose byte violates the point and is the nearest, whatever the labels. No test ends
 // early, so that the compiler unrolls the loop.
-fn nearest_byte(cuts: &[u8], at: [usize; 14]) -> usize
-    ensures { result ≡ nearest (by_byte cuts.now at) }
+fn nearest_byte(cuts: &[u8], at: [usize; 14]) -> Option<EdgeCode>
+    ensures { chosen result ≡ nearest (by_byte cuts.now at) }
 {
     let mut found: usize = 0;
-    let mut best = Violation::No;
+    let mut best: Option<usize> = None;
     for k in 0..14 {
-        let v = violation::violation(k + 1, bytes::cut_at(cuts, at[k]));
+        let v = violation::violation(EdgeCode { code: k + 1 }, bytes::cut_at(cuts, at[k]));
         if violation::is_nearer(v, best) {
             best = v;
             found = k + 1;
         }
     }
-    found
+    EdgeCode::new(found)
 }
 
-// The code is a move, and its cut is not live.
-fn is_dead(s: Sizes, state: &[u8], q: Site, code: usize) -> bool
-    requires sized { Sized s }
-    requires state_len { length state.now ≡ points s }
-    requires sited { Sited s q }
-    ensures { result ≡ dead_along state.now q.own code (neighbour s q.own code) }
+// The same among the codes whose cuts are live: the search goes through all of them.
+// (The number is the code; only its byte is looked up by it.)
+fn nearest_live(
+    scan: Scan<'_>,
+    cuts: &[u8],
+    state: &[u8],
+    q: Site,
+    at: [usize; 14],
+) -> Option<EdgeCode>
+    requires turn { Turn (reading_of scan.band (block_in scan cuts.now)) q state.now }
+    requires offsets { Offsets scan.lattice.sizes q at }
+    ensures { chosen result ≡ choice (reading_of scan.entry.band (block_in scan.entry cuts.now)) state.now q.own }
 {
-    if !codes::is_move(code) {
-        return false;
+    let mut found: usize = 0;
+    let mut best: Option<usize> = None;
+    for code in 1..15 {
+        let by = EdgeCode { code };
+        let v = violation::violation(by, bytes::cut_at(cuts, at[code - 1]));
+        if violation::is_nearer(v, best) && is_live_by(scan.lattice, state, q, by) {
+            best = v;
+            found = code;
+        }
     }
-    !is_live_by(s, state, q, code)
+    EdgeCode::new(found)
 }
 
-// The number after the last code: a search that begins there asks none.
-const PAST_CODES: usize = 15;
-
-// The points of a line take their turns. Mostly the nearest cut by the bytes is live, or there is
-// none; else the search of a point goes through all codes and keeps the nearest whose cut is live.
-// Samples and band are not read here: the contract names them, for whose labels these are. The
-// answer counts the points that move.
-fn warp_line(s: Sizes, band: u32, samples: &[i16], cuts: &[u8], state: &mut [u8], q: Site) -> usize
-    requires tabled { Tabled (block_of s samples.now cuts.now) }
-    requires line { Line s q.own q }
-    requires state_value { state.old ≡ state_at (reading_of band (block_of s samples.now cuts.now)) q.own }
-    ensures state_after { state.new
-        ≡ state_at (reading_of band (block_of s samples.now cuts.now)) (q.own + grid s q.kind along_x) }
-    ensures state_value_2 { result + moved_count state.old ≡ moved_count state.new }
+// The move of a point in its turn, if it makes one. Mostly the nearest cut by the bytes is live, or
+// there is none. Samples and band are not read here: the contract names them, for whose labels these
+// are.
+fn turn(scan: Scan<'_>, cuts: &[u8], state: &[u8], q: Site) -> Option<EdgeCode>
+    requires { Turn (reading_of scan.band (block_in scan cuts.now)) q state.now }
+    ensures { chosen result ≡ choice (reading_of scan.entry.band (block_in scan.entry cuts.now)) state.now q.own }
 {
-    let kind = q.kind;
-    let own = q.own;
-    let m = walk::line_length(s, kind);
+    let at = bytes::offsets(scan.lattice, q);
+    let code = nearest_byte(cuts, at)?;
+    if is_live_by(scan.lattice, state, q, code) {
+        return Some(code);
+    }
+    nearest_live(scan, cuts, state, q, at)
+}
+
+// The points of a line take their turns. The answer counts those that move.
+// (By the index in the line, of which `along` makes the site.)
+fn warp_line(scan: Scan<'_>, cuts: &[u8], state: &mut [u8], q: Site) -> usize
+    requires line { Line scan.lattice.sizes q.own q }
+    requires state_value { state.old ≡ state_at (reading_of scan.band (block_in scan cuts.now)) q.own }
+    ensures state_after { state.new
+        ≡ state_at (reading_of scan.entry.band (block_in scan.entry cuts.now)) (q.own + grid scan.entry.lattice.sizes q.kind along_x) }
+    ensures counted { result + moved_count state.old ≡ moved_count state.new }
+{
     let mut moved: usize = 0;
-    for x in 0..m {
-        let p = own + x;
+    for x in 0..walk::line_length(scan.lattice, q.kind) {
         let here = walk::along(q, x);
-        let at = bytes::offsets(s, here);
-        let mut found = nearest_byte(cuts, at);
-        let mut best = Violation::No;
-        let mut first: usize = PAST_CODES;
-        if is_dead(s, state, here, found) {
-            found = 0;
-            first = 1;
-        }
-        for code in first..PAST_CODES {
-            let v = violation::violation(code, bytes::cut_at(cuts, at[code - 1]));
-            if violation::is_nearer(v, best) {
-                if is_live_by(s, state, here, code) {
-                    best = v;
-                    found = code;
-                }
-            }
-        }
-        if codes::is_move(found) {
-            state[p] = found as u8;
+        if let Some(code) = turn(scan, cuts, state, here) {
+            state[here.own] = code.code as u8;
             moved += 1;
         }
     }
@@ -123,45 +120,37 @@ fn warp_line(s: Sizes, band: u32, samples: &[i16], cuts: &[u8], state: &mut [u8]
 }
 
 // The table at the outset: the mark where a label is zero from the start. Nothing else is asked, so
-// that the compiled loop takes many points in one step.
-fn mark(band: u32, samples: &[i16], state: &mut [u8])
-    requires band_le_band_most { band ≤ band_most }
-    requires samples_len { length samples.now ≡ length state.old }
-    ensures { state.new ≡ outset_of (labels band samples.now) (length state.old) }
+// that the compiled loop takes many points in one step. (By an index: of what `iter_mut` gives beside
+// another table the check knows nothing.)
+fn mark(scan: Scan<'_>, state: &mut [u8])
+    requires band_le_band_most { scan.band ≤ band_most }
+    requires state_len { length state.old ≡ points scan.lattice.sizes }
+    ensures { state.new ≡ outset_of (label_in scan.entry) (length state.old) }
 {
-    let high = band as i16;
+    let high = scan.band as i16;
     let low = -high;
     for p in 0..state.len() {
-        state[p] = codes::mark_of(low, high, samples[p]);
+        state[p] = codes::mark_of(low, high, scan.sample(p));
     }
 }
 
 // Points are taken once each, in ascending number, a line at a time, and move in place. Where there
 // is no cut at all none moves, and most lines are far from any cut. The answer counts the points
 // that move.
-pub fn warp(s: Sizes, band: u32, samples: &[i16], cuts: &[u8], state: &mut [u8]) -> usize
-    requires tabled { Tabled (block_of s samples.now cuts.now) }
-    requires state_len { length state.old ≡ points s }
-    requires band_le_band_most { band ≤ band_most }
-    ensures state_after { state.new ≡ state_of (reading_of band (block_of s samples.now cuts.now)) }
-    ensures value { result ≡ moved_count (state_of (reading_of band (block_of s samples.now cuts.now))) }
+pub fn warp(scan: Scan<'_>, cuts: &[u8], state: &mut [u8]) -> usize
+    requires state_len { length state.old ≡ points scan.lattice.sizes }
+    requires band_le_band_most { scan.band ≤ band_most }
+    ensures state_after { state.new ≡ state_of (reading_of scan.entry.band (block_in scan.entry cuts.now)) }
+    ensures value { result ≡ moved_count (state_of (reading_of scan.entry.band (block_in scan.entry cuts.now))) }
 {
-    mark(band, samples, state);
+    mark(scan, state);
     if ranges::is_blank(cuts, 0, cuts.len()) {
         return 0;
     }
-    let n = counts::point_count(s);
-    let mut q = numbers::locate(s, 0);
     let mut moved: usize = 0;
-    let mut p = 0;
-    while p < n {
-        if !bytes::is_bare_line(s, cuts, q) {
-            moved += warp_line(s, band, samples, cuts, state, q);
-        }
-        let kind = q.kind;
-        p += walk::line_length(s, kind);
-        if p < n {
-            q = walk::next_line(s, q);
+    for q in Lines::of(scan.lattice) {
+        if !bytes::is_bare_line(scan.lattice, cuts, q) {
+            moved += warp_line(scan, cuts, state, q);
         }
     }
     moved

@@ -1,4 +1,5 @@
-pub mod Hits
+pub mod Slots
+pub mod Parts
 pub mod Spreading
 pub mod Marking
 pub mod Windowing

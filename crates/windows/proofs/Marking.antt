@@ -3,7 +3,7 @@
 --     MarksTo, marks_none, marks_all     those of the entries below i: at the start, at the end
 --     marks_in, marks_out                a turn: an id of the window that is marked, an id of another
 -- Assumes nothing.
-use Prim.Native.Nat.{ℕ, ◌+◌, ◌-◌, ◌≤◌, ◌<◌}
+use Prim.Native.Nat.{ℕ, ◌+◌, ◌≤◌, ◌<◌}
 use native.Mathlib.Omega.{arith}
 use native.Mathlib.Numerals.{add-one}
 use mathlib.Core.Path.{◌≡◌, refl, sym, ap, ap₂, ◌∙◌}
@@ -17,7 +17,7 @@ use Rattle.basics.proofs.Flags.{or_none, or_assoc, same_test}
 use Rattle.bitmap.specs.inner.Bits.{marked, Adds}
 use Rattle.numbering.specs.Nodes.{used}
 use Rattle.numbering.proofs.Used.{used_next, used_not}
-use Rattle.windows.specs.inner.Windows.{window, Marks}
+use Rattle.windows.specs.inner.Windows.{window, Outside, Marks}
 
 pub none_used : (rows : List ℕ) (id : ℕ) → used (take 0 rows) id ≡ false
 none_used rows id = used_not (take 0 rows) id (λ j l. absurd (omega arith))
@@ -53,20 +53,19 @@ module _ {lo i : ℕ} {rows old bits : List ℕ} (m : MarksTo lo rows old bits i
         one_more : used (take (i + 1) rows) (lo + k) ≡ (used (take i rows) (lo + k) || eqb (get_or rows i 0) (lo + k))
         one_more = ap (λ (n : ℕ). used (take n rows) (lo + k)) (add-one i) ∙ used_next rows i (lo + k) h
 
-    pub marks_in : {new got : List ℕ} → lo ≤ get_or rows i 0 → Adds (get_or rows i 0 - lo) bits new → got ≡ new
+    pub marks_in : {k : ℕ} {new got : List ℕ} → get_or rows i 0 ≡ lo + k → Adds k bits new → got ≡ new
         → MarksTo lo rows old got (i + 1)
-    marks_in l a q =
+    marks_in {k} e a q =
         rw q
         record {
           long = a.long ∙ m.long;
-          is = λ k u. a.is k ∙ next k u _ (same_test _ k _ (lo + k) (λ q. omega arith) (λ q. omega arith));
+          is = λ j u. a.is j ∙ next j u _ (same_test k j _ (lo + j) (λ q. omega arith) (λ q. omega arith));
         }
 
-    pub marks_out : {got : List ℕ} → ((k : ℕ) → k < window → get_or rows i 0 ≡ lo + k → ⊥) → got ≡ bits
-        → MarksTo lo rows old got (i + 1)
-    marks_out f q =
+    pub marks_out : {got : List ℕ} → Outside lo (get_or rows i 0) → got ≡ bits → MarksTo lo rows old got (i + 1)
+    marks_out o q =
         rw q
         record {
           long = m.long;
-          is = λ k u. sym (or_none (marked bits k)) ∙ next k u false (sym (ne_eqb _ _ (f k u)));
+          is = λ k u. sym (or_none (marked bits k)) ∙ next k u false (sym (ne_eqb _ _ (o.is k u)));
         }

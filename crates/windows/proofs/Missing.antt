@@ -1,38 +1,35 @@
 -- Windows that are not hit. Assumes nothing.
---     MissedTo, missed_none, missed_more, missed_all    the parts looked at so far
+--     missed_all                                        no part is hit, as a search over all of them says it
 --     next_none, next_more, next-end                    the windows looked at so far
 --     missed_unused                                     no id of such a window is in use
 use Prim.Native.Nat.{ℕ, ◌+◌, ◌*◌, ◌/◌, ◌≤◌, ◌<◌}
 use native.Mathlib.Omega.{arith}
-use mathlib.Core.Path.{◌≡◌, subst}
+use mathlib.Core.Path.{◌≡◌, subst, ◌∙◌}
 use mathlib.Core.Logic.{inl, inr}
 use mathlib.Core.Bool.{false}
 use mathlib.Core.List.{List}
 use lib.ListN.{length}
+use Rattle.std.specs.List.{AllWithin, range_with_len}
+use Rattle.std.proofs.lemmas.List.FromFn.{length-range_with_len, get_or-range_with_len}
 use Rattle.basics.proofs.Test.{true_T, false_F, lt_or}
 use Rattle.bitmap.specs.inner.Bits.{marked}
 use Rattle.windows.specs.inner.Windows.{window, windows, part, slot, Known, Missed, NextHit}
 use Rattle.numbering.specs.Nodes.{used}
 use Rattle.numbering.proofs.Used.{used_not}
 
-pub record MissedTo (hits : List ℕ) (w p : ℕ) : Type 0 where
-  pub is : (i : ℕ) → i < p → marked hits (slot w i) ≡ false
-
 module _ {hits : List ℕ} {w : ℕ} where
-  pub missed_none : MissedTo hits w 0
-  missed_none = record { is = λ i l. absurd (omega arith) }
-
-  pub missed_more : {p : ℕ} → MissedTo hits w p → marked hits (slot w p) ≡ false → MissedTo hits w (p + 1)
-  missed_more {p} m e =
+  -- no part is hit, as a search over all of them says it
+  pub missed_all : (n : ℕ)
+      → AllWithin (λ p. marked hits (slot w p) ≡ false) (range_with_len 0 (n / part + 1)) 0 (length (range_with_len 0 (n / part + 1)))
+      → Missed hits n w
+  missed_all n f =
       record {
-        is = λ i l. elim (lt_or i p) [
-          | inl u ↦ m.is i u
-          | inr u ↦ let q : p ≡ i = omega arith in subst (λ (k : ℕ). marked hits (slot w k) ≡ false) q e
-        ];
+        is = λ p u.
+            let l : p < n / part + 1 = omega arith in
+            let e = get_or-range_with_len 0 (n / part + 1) p 0 l in
+            subst (λ (k : ℕ). marked hits (slot w k) ≡ false) (e ∙ omega arith)
+            (f p 0 (omega arith) (omega (arith, length-range_with_len 0 (n / part + 1))));
       }
-
-  pub missed_all : {p : ℕ} (n : ℕ) → MissedTo hits w p → n / part + 1 ≤ p → Missed hits n w
-  missed_all n m l = record { is = λ i u. m.is i (omega arith) }
 
   -- an entry in the window would be hit
   pub missed_unused : {rows : List ℕ} → Known hits rows w → Missed hits (length rows) w → (k : ℕ) → k < window

@@ -1,12 +1,12 @@
 -- What the hits say of the row table, entry by entry and part by part.
 --     Tells, tells_none, tells_more, tells_all            the hits of the entries below i: at the start, a turn, the end
 --     tells_marked, tells_known                           the turn, where the slot is marked now, or was before
---     Spreads, spreads_none, spreads_more, spreads_all    the hits of the first parts: the same
---     beyond_part                                         an id past the last window in a part
+--     Spreads, spreads_none, spreads_all                  the hits of the first parts: at the start, at the end
+--     spreads_taken, beyond_taken                         a part's hits; an id past the last window in a part
 -- Assumes nothing.
 use Prim.Native.Nat.{ℕ, ◌+◌, ◌-◌, ◌*◌, ◌/◌, ◌≤◌, ◌<◌}
 use native.Mathlib.Omega.{arith}
-use mathlib.Core.Path.{◌≡◌, sym, ap, ◌∙◌}
+use mathlib.Core.Path.{◌≡◌, refl, sym, ap, subst, ◌∙◌}
 use mathlib.Core.Logic.{inl, inr}
 use mathlib.Core.Bool.{Bool, true}
 use mathlib.Core.List.{List}
@@ -14,8 +14,10 @@ use lib.ListN.{length, get_or, take, drop, length-take, length-drop}
 use Rattle.basics.proofs.Test.{lt_or}
 use Rattle.basics.proofs.Part.{lent_at}
 use Rattle.bitmap.specs.inner.Bits.{marked, Adds}
-use Rattle.windows.specs.inner.Windows.{window, windows, part, hit_words, slot, Grows, Beyond, Told, Spread}
-use Rattle.windows.proofs.Hits.{grows_not, grows_then, grows_add, add_hit}
+use Rattle.windows.specs.inner.Windows.{window, windows, part, slot, Grows, Beyond, Told, Spread}
+use Rattle.windows.proofs.Parts.{Left, Taken, here, fits, full}
+use Rattle.windows.proofs.Parts as parts
+use Rattle.windows.proofs.Slots.{grows_not, grows_then, grows_add, add_hit}
 
 -- entry by entry: those below i have their hits
 pub record Tells (old hits rows : List ℕ) (p i : ℕ) : Type 0 where
@@ -65,14 +67,12 @@ tells_all t l = record { inside = λ j h. t.inside j (omega arith); hit = λ j h
 
 -- part by part: the entries of the first p parts have their hits
 pub record Spreads (hits rows : List ℕ) (p : ℕ) : Type 0 where
-  pub long : length hits ≡ hit_words
   pub inside : (j : ℕ) → j < length rows → j < part * p → get_or rows j 0 < windows * window
   pub hit : (j : ℕ) → j < length rows → j < part * p
       → marked hits (slot (get_or rows j 0 / window) (j / part)) ≡ true
 
-pub spreads_none : (hits rows : List ℕ) → length hits ≡ hit_words → Spreads hits rows 0
-spreads_none hits rows e =
-    record { long = e; inside = λ j h l. absurd (omega arith); hit = λ j h l. absurd (omega arith) }
+pub spreads_none : (hits rows : List ℕ) {p : ℕ} → p ≡ 0 → Spreads hits rows p
+spreads_none hits rows z = record { inside = λ j h l. absurd (omega arith); hit = λ j h l. absurd (omega arith) }
 
 pub spreads_all : {hits rows : List ℕ} {p : ℕ} → Spreads hits rows p → length rows ≤ part * p
     → Spread hits rows (length rows)
@@ -83,7 +83,7 @@ module _ (rows : List ℕ) (a n : ℕ) (fits : a + n ≤ length rows) where
   part_long : length (take n (drop a rows)) ≡ n
   part_long = simp (length-take, length-drop) (omega arith)
 
-  pub beyond_part : Beyond (take n (drop a rows)) → Beyond rows
+  beyond_part : Beyond (take n (drop a rows)) → Beyond rows
   beyond_part b =
       let l : b.at < n = omega (arith, b.within, part_long) in
       record { at = a + b.at; within = omega arith; past = omega (arith, b.past, lent_at a n rows b.at l) }
@@ -98,23 +98,22 @@ module _ (rows : List ℕ) (a n : ℕ) (fits : a + n ≤ length rows) where
       lent : j - a < length (take n (drop a rows))
       lent = omega (arith, part_long, short)
 
-      here : get_or (take n (drop a rows)) (j - a) 0 ≡ get_or rows j 0
-      here = lent_at a n rows (j - a) short ∙ ap (λ (x : ℕ). get_or rows x 0) (omega arith)
+      same : get_or (take n (drop a rows)) (j - a) 0 ≡ get_or rows j 0
+      same = lent_at a n rows (j - a) short ∙ ap (λ (x : ℕ). get_or rows x 0) (omega arith)
 
       in_part : get_or rows j 0 < windows * window
-      in_part = omega (arith, here, t.inside (j - a) lent)
+      in_part = omega (arith, same, t.inside (j - a) lent)
 
       hit_part : marked new (slot (get_or rows j 0 / window) (j / part)) ≡ true
       hit_part =
           let q : j / part ≡ p = omega arith in
           ap (λ (x : ℕ). marked new (slot (get_or rows j 0 / window) x)) q
-          ∙ ap (λ (x : ℕ). marked new (slot (x / window) p)) (sym here)
+          ∙ ap (λ (x : ℕ). marked new (slot (x / window) p)) (sym same)
           ∙ t.hit (j - a) lent
 
-    pub spreads_more : {hits : List ℕ} → Spreads hits rows p → Grows hits new → Spreads new rows (p + 1)
+    spreads_more : {hits : List ℕ} → Spreads hits rows p → Grows hits new → Spreads new rows (p + 1)
     spreads_more s g =
         record {
-          long = g.long ∙ s.long;
           inside = λ j h l. elim (lt_or j a) [
             | inl m ↦ s.inside j h (omega arith)
             | inr m ↦ in_part j h l m
@@ -124,3 +123,19 @@ module _ (rows : List ℕ) (a n : ℕ) (fits : a + n ≤ length rows) where
             | inr m ↦ hit_part j h l m
           ];
         }
+
+-- the same of a part as it is taken off
+module _ {rows left taken rest : List ℕ} {size to p at next : ℕ} (l : Left rows left size p)
+    (t : Taken size to p at next left taken rest) where
+  pub beyond_taken : Beyond taken → Beyond rows
+  beyond_taken b = beyond_part rows (part * p) (length taken) (parts.inside l t) (subst Beyond (here l t) b)
+
+  pub spreads_taken : {hits new : List ℕ} → Told new taken at → Spreads hits rows p → Grows hits new → Spreads new rows next
+  spreads_taken {new = new} told s g =
+      subst (λ (q : ℕ). Spreads new rows q) (sym t.is_next)
+      (spreads_more rows (part * p) (length taken) (parts.inside l t) refl (fits l t) (full l t) in_place s g)
+    where
+      in_place : Told new (take (length taken) (drop (part * p) rows)) p
+      in_place =
+          subst (λ (q : ℕ). Told new (take (length taken) (drop (part * p) rows)) q) t.is_at
+          (subst (λ (r : List ℕ). Told new r at) (here l t) told)

@@ -2,7 +2,8 @@
 // as numbers. Parts of the row table that have no id in a window are left out.
 #![tactic(auto)]
 
-pub mod hit;
-pub mod looks;
+pub mod hits;
+pub mod numbers;
 pub mod passes;
 pub mod spread;
+pub mod window;

@@ -2,8 +2,7 @@
 -- too short for the block.
 use Rattle.std.specs.Prelude.{ℕ, List, ℤ}
 use Rattle.lattice.specs.Counts.{largest}
-use Rattle.blockfile.specs.declared.Read.{Read}
-use Rattle.blockfile.specs.Format.{Outcome, read}
+use Rattle.blockfile.specs.Format.{Read, Outcome, read}
 use Rattle.yakuemi.specs.declared.read.ReadFile.{ReadFile}
 
 unfoldable pub read_file : List ℕ → List ℤ → List ℕ → Outcome

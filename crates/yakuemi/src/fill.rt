@@ -6,8 +6,8 @@ ghost use Rattle.filling.specs.Fill.{fill};
 ghost use Rattle.filling.specs.Demand.{Conforms, OnSkin, rows_read};
 ghost use Rattle.yakuemi.specs.Measures.{sizes};
 
+use crate::sizes;
 use filling::Filled;
-use lattice::Sizes;
 
 // Moves the points that sit too near the skin, each to the nearest cut, and writes the rows of a
 // block of nx by ny by nz cubes: N samples, 7N cut bytes, N state bytes and a row table, of any
@@ -39,10 +39,5 @@ pub fn yakuemi_fill(
         (place_of (sizes nx ny nz) cuts.now state.new)
         (OnSkin (reading_of band (block_of (sizes nx ny nz) samples.now cuts.now))) }
 {
-    let s = Sizes {
-        nx: nx as usize,
-        ny: ny as usize,
-        nz: nz as usize,
-    };
-    stuffing::steps::fill_sized(s, band, samples, cuts, state, rows)
+    stuffing::steps::fill_sized(sizes(nx, ny, nz), band, samples, cuts, state, rows)
 }

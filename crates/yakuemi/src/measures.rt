@@ -2,7 +2,9 @@
 ghost use Rattle.std.specs.Prelude.{◌≡◌};
 ghost use Rattle.yakuemi.specs.Measures.{measure, sizes};
 
-use lattice::{Sizes, counts};
+use crate::sizes;
+use lattice::Lattice;
+use refusals::Refusal;
 
 // The answer of measures: 0 with both counts, or 1 with zeros where a size is outside 1 to 64.
 #[repr(C)]
@@ -14,24 +16,20 @@ pub struct Measures {
 }
 
 // The count of lattice points and of lattice tetrahedra of a block of nx by ny by nz cubes.
+#[tactic(auto, using(crate::proofs::Measured::measured, crate::proofs::Measured::unmeasured), unfolding(refusals::specs::inner::Numbers::number_of))]
 pub fn yakuemi_measures(nx: u32, ny: u32, nz: u32) -> Measures
     ensures { result ≡ measure (sizes nx ny nz) }
 {
-    let s = Sizes {
-        nx: nx as usize,
-        ny: ny as usize,
-        nz: nz as usize,
-    };
-    if counts::sizes_fit(s) {
-        return Measures {
+    match Lattice::new(sizes(nx, ny, nz)) {
+        Some(lattice) => Measures {
             number: 0,
-            points: counts::point_count(s) as u64,
-            tetrahedra: counts::tetrahedron_count(s) as u64,
-        };
-    }
-    Measures {
-        number: 1,
-        points: 0,
-        tetrahedra: 0,
+            points: lattice.point_count() as u64,
+            tetrahedra: lattice.tetrahedron_count() as u64,
+        },
+        None => Measures {
+            number: Refusal::Sizes.number(),
+            points: 0,
+            tetrahedra: 0,
+        },
     }
 }

@@ -4,7 +4,7 @@ ghost use Rattle.moving.specs.Block.{block_of};
 ghost use Rattle.mending.specs.Mend.{mend};
 ghost use Rattle.yakuemi.specs.Measures.{sizes};
 
-use lattice::Sizes;
+use crate::sizes;
 use mending::Mended;
 
 // Changes the cut table of a block of nx by ny by nz cubes so that filling with the same band no
@@ -26,10 +26,5 @@ pub fn yakuemi_mend(
     ensures answer { result ≡ (mend band (block_of (sizes nx ny nz) samples.now cuts.old)).answer }
     ensures cuts { cuts.new ≡ (mend band (block_of (sizes nx ny nz) samples.now cuts.old)).cuts }
 {
-    let s = Sizes {
-        nx: nx as usize,
-        ny: ny as usize,
-        nz: nz as usize,
-    };
-    patch::block::mend_block(s, band, samples, cuts)
+    patch::block::mend_block(sizes(nx, ny, nz), band, samples, cuts)
 }

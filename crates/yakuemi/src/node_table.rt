@@ -3,7 +3,7 @@ ghost use Rattle.std.specs.Prelude.{◌≡◌};
 ghost use Rattle.numbering.specs.Nodes.{number};
 ghost use Rattle.yakuemi.specs.Measures.{sizes};
 
-use lattice::Sizes;
+use crate::sizes;
 use numbering::Numbered;
 
 // Writes each id that the rows use once, ascending, with its place, and rewrites the rows as node
@@ -28,10 +28,5 @@ pub fn yakuemi_nodes(
     ensures nodes { nodes.new
         ≡ (number (sizes nx ny nz) cuts.now state.now rows.old nodes.old).nodes }
 {
-    let s = Sizes {
-        nx: nx as usize,
-        ny: ny as usize,
-        nz: nz as usize,
-    };
-    nodes::block::number_block(s, cuts, state, rows, nodes)
+    nodes::block::number_block(sizes(nx, ny, nz), cuts, state, rows, nodes)
 }

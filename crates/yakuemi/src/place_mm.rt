@@ -3,7 +3,7 @@ ghost use Rattle.std.specs.Prelude.{◌≡◌};
 ghost use Rattle.metric.specs.Millimetres.{locate_mm};
 ghost use Rattle.yakuemi.specs.Measures.{sizes};
 
-use lattice::Sizes;
+use crate::sizes;
 use metric::PlacedMm;
 
 // Where the corner with an id stands, in millimetres: the place call's answer, each coordinate
@@ -12,6 +12,7 @@ use metric::PlacedMm;
 // Theorems (crates/metric/proofs/Theorems.antt): where the unit is a power of two each product is
 // exact (`exact`); at every unit it is within one part in 2^53 of the exact one (`near`); no
 // coordinate of any answer is a NaN or an infinity (`finite_always`).
+#[tactic(auto, unfolding(metric::specs::Millimetres::locate_mm))]
 pub fn yakuemi_place_mm(
     nx: u32,
     ny: u32,
@@ -23,11 +24,6 @@ pub fn yakuemi_place_mm(
 ) -> PlacedMm
     ensures { result ≡ locate_mm (sizes nx ny nz) cuts.now state.now id unit }
 {
-    let s = Sizes {
-        nx: nx as usize,
-        ny: ny as usize,
-        nz: nz as usize,
-    };
-    let p = places::locate::locate_id(s, cuts, state, id as usize);
+    let p = places::locate::locate_id(sizes(nx, ny, nz), cuts, state, id as usize);
     scale::in_millimetres(p, unit)
 }

@@ -16,17 +16,26 @@ pub struct ReadFile {
 
 // Reads a block file from the start of the bytes into the first N samples and the first 7N cut
 // bytes of the lent tables. A refusal writes nothing.
+#[tactic(auto, unfolding(crate::specs::Reads::read_file, crate::specs::Reads::answer_of, blockfile::specs::inner::Answer::answer_of, blockfile::specs::Format::refusal))]
 pub fn yakuemi_read(bytes: &[u8], samples: &mut [i16], cuts: &mut [u8]) -> ReadFile
     ensures answer { result ≡ answer_of (read_file bytes.now samples.old cuts.old).answer }
     ensures samples { samples.new ≡ (read_file bytes.now samples.old cuts.old).samples }
     ensures cuts { cuts.new ≡ (read_file bytes.now samples.old cuts.old).cuts }
 {
-    let r = blockfile::file::read(bytes, 64, samples, cuts);
-    ReadFile {
-        number: r.number,
-        nx: r.nx as u32,
-        ny: r.ny as u32,
-        nz: r.nz as u32,
-        end: r.end as u64,
+    match blockfile::file::read(bytes, 64, samples, cuts) {
+        Ok(file) => ReadFile {
+            number: 0,
+            nx: file.lattice.sizes.nx as u32,
+            ny: file.lattice.sizes.ny as u32,
+            nz: file.lattice.sizes.nz as u32,
+            end: file.end as u64,
+        },
+        Err(refusal) => ReadFile {
+            number: refusal.number(),
+            nx: 0,
+            ny: 0,
+            nz: 0,
+            end: 0,
+        },
     }
 }

@@ -1,15 +1,12 @@
--- The loop's invariant: the words below w are 0. Assumes nothing.
-use Rattle.bitmap.proofs.Loops.{cleared_none, cleared_more, cleared_whole}
+-- No bit is set where every word is 0. Assumes nothing.
+use mathlib.Core.Path.{refl}
+use native.Mathlib.Omega.{arith}
+use Rattle.bitmap.proofs.Tables.{all_clear}
 use Rattle.bitmap.proofs.clear.Goals as goal
 
-pub loop-w-init : goal.loop-w-init
-loop-w-init c = cleared_none c.args.bits.now
-
-pub loop-w-preserved : goal.loop-w-preserved
-loop-w-preserved c = cleared_more c.loop-w.invariant c.loop-w-test.true
-
-pub shape_of-bits : goal.shape_of-bits
-shape_of-bits c = c.loop-w.invariant.long
-
 pub returns : goal.returns
-returns c = cleared_whole c.loop-w.invariant c.loop-w-test.false
+returns c =
+    record {
+      long = c.fill.ensures.len;
+      is = all_clear _ (λ w l. c.fill.ensures.clones w 0 (omega (arith, c.fill.ensures.len)) refl);
+    }

@@ -7,5 +7,4 @@ overflow_add-result c =
     record { fits = number_fits c.args.k c.requires.ranks c.requires.k_bound c.ones_below.ensures c.requires.bits_bound }
 
 pub returns : goal.returns
-returns c =
-    number_is c.args.k c.requires.ranks c.requires.k_bound c.ones_below.ensures
+returns c = number_is c.args.k c.requires.ranks c.requires.k_bound c.ones_below.ensures

@@ -1,8 +1,7 @@
 -- Files for the reader: document 01's given case byte by byte, and a file or two for each reason of a refusal.
 use Rattle.std.specs.Prelude.{ℕ, List, [], ◌∷◌, ◌++◌, ℤ, pos, replicate, take}
 use Rattle.basics.specs.Lists.{gather}
-use Rattle.blockfile.specs.declared.Read.{Read}
-use Rattle.blockfile.specs.Format.{read, read_whole, refusal}
+use Rattle.blockfile.specs.Format.{Read, read, read_whole, refusal}
 
 -- n times the same bytes
 abbrev pub repeated : ℕ → List ℕ → List ℕ

@@ -1,8 +1,11 @@
 -- How much of a block file must be held before more of it is known, and what a reader holds that asks for no more: so a
 -- program that reads files one after another never takes a byte past the end of one. `needs` is that count, `Held` what
 -- is held at a turn, `HeldIn` the same in a table.
-use Rattle.std.specs.Prelude.{ℕ, ◌<◌, ◌≤◌, ◌≡◌, ◌⊎◌, Bool, true, not, List, [], length, take, ltb, if◌then◌else◌}
+use Rattle.std.specs.Prelude.{ℕ, ◌<◌, ◌≤◌, ◌≡◌, ◌⊎◌, Bool, true, false, not, List, [], length, take, ltb, if◌then◌else◌}
+use Rattle.lattice.specs.declared.Sizes.{Sizes}
 use Rattle.lattice.specs.Counts.{sizes_fit, points}
+use Rattle.refusals.specs.declared.Refusal.{Refusal}
+use Rattle.refusals.specs.declared.Refusal.TheVariants.{File, Sizes as Refused, Room}
 use Rattle.blockfile.specs.Format.{file_sizes, headers, first_byte, end, beyond}
 
 -- of a file of n points: its samples and the run count, which says how many headers follow; then these, which say how
@@ -22,6 +25,19 @@ needs bytes limit =
     else if not (sizes_fit s) then 3
     else if beyond limit s then 3
     else rest
+
+-- the sizes with which a file starts are taken, and within the limit
+pub record Opens (bytes : List ℕ) (limit : ℕ) (s : Sizes) : Type 0 where
+  pub long : 3 ≤ length bytes
+  pub is : s ≡ file_sizes bytes
+  pub fits : sizes_fit s ≡ true
+  pub within : beyond limit s ≡ false
+
+-- or why not
+pub data Shut (bytes : List ℕ) (limit : ℕ) : Refusal → Type 0 where
+  short : length bytes < 3 → Shut bytes limit File
+  misfit : 3 ≤ length bytes → sizes_fit (file_sizes bytes) ≡ false → Shut bytes limit Refused
+  over : 3 ≤ length bytes → sizes_fit (file_sizes bytes) ≡ true → beyond limit (file_sizes bytes) ≡ true → Shut bytes limit Room
 
 -- no well-formed file within the bench program's sizes has more bytes
 abbrev pub bench_longest : ℕ

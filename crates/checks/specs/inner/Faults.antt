@@ -1,4 +1,5 @@
 -- Document 01, "Calls and refusals": refusals 6 and 7, and what the search for them answers.
+--     fault_number, fault_offset   the number and the place of a byte at fault
 --     number_of, fault_place   the number and the place of an answer
 --     CutAnswer              the answer for a whole cut table
 --     Wrong, Answered        the answer for a part of it
@@ -6,33 +7,39 @@
 --     crossings_at            which of the seven edges from a point cross
 --     PointFine, LineFine, PointAnswered, LineAnswered     the answers for a point and for a line of points
 --     PartFine, PartAnswered, RestAnswered     the same for a part of a line, and for its rest
---     Asked                  a decoded point of a block whose samples are all there
-use Rattle.std.specs.Prelude.{ℕ, ◌+◌, ◌*◌, ◌≤◌, ◌<◌, ◌≡◌, Bool, false, List, [], ◌∷◌, ℤ, length, get_or, eqb, ltb, if◌then◌else◌}
+use Rattle.std.specs.Prelude.{ℕ, ◌+◌, ◌*◌, ◌≤◌, ◌<◌, ◌≡◌, Bool, false, List, [], ◌∷◌, get_or, eqb, ltb, if◌then◌else◌, Result, Ok, Err, MatchResult}
 use Rattle.lattice.specs.declared.Sizes.{Sizes}
 use Rattle.lattice.specs.declared.Site.{Site}
 use Rattle.lattice.specs.Axis.{along_x}
-use Rattle.lattice.specs.Counts.{Sized, grid, points}
-use Rattle.lattice.specs.inner.Site.{Sited}
+use Rattle.lattice.specs.Counts.{grid, points}
 use Rattle.moving.specs.declared.Label.{Label}
 use Rattle.filling.specs.Check.{crosses, cut_fault, first_cut}
 use Rattle.checks.specs.declared.Fault.{Fault}
-use Rattle.checks.specs.declared.Fault.TheVariants.{Fine, Gap, Stray}
+use Rattle.checks.specs.declared.Fault.TheVariants.{Gap, Stray}
 use Rattle.checks.specs.inner.Search.{Throughout}
 
--- document 01's number of each answer: "6 gap", "7 stray", and 0 where nothing is wrong
-abbrev pub number_of : Fault → ℕ
-number_of Fine = 0
-number_of (Gap o) = 6
-number_of (Stray o) = 7
+-- document 01's number of a byte at fault: "6 gap", "7 stray"
+abbrev pub fault_number : Fault → ℕ
+fault_number (Gap o) = 6
+fault_number (Stray o) = 7
 
--- its place, the byte's offset, and the number `none` where nothing is wrong
-abbrev pub fault_place : ℕ → Fault → ℕ
-fault_place none Fine = none
-fault_place none (Gap o) = o
-fault_place none (Stray o) = o
+-- its place, the byte's offset
+abbrev pub fault_offset : Fault → ℕ
+fault_offset (Gap o) = o
+fault_offset (Stray o) = o
+
+-- the number of an answer, 0 where nothing is wrong
+abbrev pub number_of : Result (Unit {0}) Fault → ℕ
+number_of (Ok u) = 0
+number_of (Err f) = fault_number f
+
+-- its place, and the number `none` where nothing is wrong
+abbrev pub fault_place : ℕ → Result (Unit {0}) Fault → ℕ
+fault_place none (Ok u) = none
+fault_place none (Err f) = fault_offset f
 
 -- the answer for a whole cut table: the lowest byte at fault with its number, or 7N with 0
-pub record CutAnswer (s : Sizes) (label : ℕ → Label) (cuts : List ℕ) (r : Fault) : Type 0 where
+pub record CutAnswer (s : Sizes) (label : ℕ → Label) (cuts : List ℕ) (r : Result (Unit {0}) Fault) : Type 0 where
   pub place : fault_place (7 * points s) r ≡ first_cut s label cuts
   pub number : number_of r
       ≡ (if ltb (first_cut s label cuts) (7 * points s) then cut_fault s label cuts (first_cut s label cuts) else 0)
@@ -45,17 +52,15 @@ pub record Wrong (fault : ℕ → ℕ) (a e n o : ℕ) : Type 0 where
   pub before : Throughout fault 0 a o
 
 -- the answer for the offsets from a on and before e
-pub data Answered (fault : ℕ → ℕ) (a e : ℕ) : Fault → Type 0 where
-  fine : Throughout fault (number_of Fine) a e → Answered fault a e Fine
-  gap : {o : ℕ} → Wrong fault a e (number_of (Gap o)) o → Answered fault a e (Gap o)
-  stray : {o : ℕ} → Wrong fault a e (number_of (Stray o)) o → Answered fault a e (Stray o)
+abbrev pub Answered : (ℕ → ℕ) → ℕ → ℕ → Result (Unit {0}) Fault → Type 0
+Answered fault a e r = MatchResult r (λ u. Throughout fault 0 a e) (λ f. Wrong fault a e (fault_number f) (fault_offset f))
 
 -- the number of a byte's fault, where there must be a cut or must be none: the same wherever it stands, so its place
 -- is left at 0
 unfoldable pub number_at : Bool → ℕ → ℕ
 number_at must byte =
-    if must then (if eqb byte 0 then number_of (Gap 0) else number_of Fine)
-    else (if eqb byte 0 then number_of Fine else number_of (Stray 0))
+    if must then (if eqb byte 0 then fault_number (Gap 0) else 0)
+    else (if eqb byte 0 then 0 else fault_number (Stray 0))
 
 -- the same of the byte in direction d of one point
 unfoldable pub seven_fault : List Bool → List ℕ → ℕ → ℕ
@@ -78,7 +83,7 @@ module _ (s : Sizes) (label : ℕ → Label) (bytes : List ℕ) (q : Site) where
   abbrev pub PointFine : Type 0
   PointFine = Throughout (seven_fault (crossings_at s label q.own) bytes) 0 0 7
 
-  abbrev pub PointAnswered : Fault → Type 0
+  abbrev pub PointAnswered : Result (Unit {0}) Fault → Type 0
   PointAnswered = Answered (seven_fault (crossings_at s label q.own) bytes) 0 7
 
 -- the bytes of the line of points that starts at q
@@ -86,21 +91,16 @@ module _ (s : Sizes) (label : ℕ → Label) (cuts : List ℕ) (q : Site) where
   abbrev pub LineFine : Type 0
   LineFine = Throughout (cut_fault s label cuts) 0 (7 * q.own) (7 * (q.own + grid s q.kind along_x))
 
-  abbrev pub LineAnswered : Fault → Type 0
+  abbrev pub LineAnswered : Result (Unit {0}) Fault → Type 0
   LineAnswered = Answered (cut_fault s label cuts) (7 * q.own) (7 * (q.own + grid s q.kind along_x))
 
   -- and of its points from index x on and before index e
   abbrev pub PartFine : ℕ → ℕ → Type 0
   PartFine x e = Throughout (cut_fault s label cuts) 0 (7 * (q.own + x)) (7 * (q.own + e))
 
-  abbrev pub PartAnswered : ℕ → ℕ → Fault → Type 0
+  abbrev pub PartAnswered : ℕ → ℕ → Result (Unit {0}) Fault → Type 0
   PartAnswered x e = Answered (cut_fault s label cuts) (7 * (q.own + x)) (7 * (q.own + e))
 
   -- and from index x on
-  abbrev pub RestAnswered : ℕ → Fault → Type 0
+  abbrev pub RestAnswered : ℕ → Result (Unit {0}) Fault → Type 0
   RestAnswered x = PartAnswered x (grid s q.kind along_x)
-
-pub record Asked (s : Sizes) (samples : List ℤ) (q : Site) : Type 0 where
-  pub sized : Sized s
-  pub long : length samples ≡ points s
-  pub sited : Sited s q

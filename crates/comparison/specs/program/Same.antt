@@ -1,18 +1,16 @@
 -- Tables compared entry by entry, and answers of filling part by part. That these tests find every difference is proved in proofs/Difference.antt.
 use Rattle.std.specs.Prelude.{ℕ, zero, suc, ◌+◌, Bool, true, false, ◌&&◌, List, [], ◌∷◌, ℤ, pos, negsuc, eqb}
+use Rattle.std.specs.List.{list_all}
+use Rattle.std.specs.Cmp.Lexicographic.{pointwise}
 use Rattle.filling.specs.declared.Filled.{Filled}
 use Rattle.blockfile.specs.Format.{two_at}
 
-unfoldable pub same : List ℕ → List ℕ → Bool
-same [] [] = true
-same [] (y ∷ ys) = false
-same (x ∷ xs) [] = false
-same (x ∷ xs) (y ∷ ys) = eqb x y && same xs ys
+abbrev pub same : List ℕ → List ℕ → Bool
+same = pointwise eqb
 
 -- every entry is what the table was lent with
-unfoldable pub untouched : ℕ → List ℕ → Bool
-untouched lent [] = true
-untouched lent (x ∷ xs) = eqb x lent && untouched lent xs
+abbrev pub untouched : ℕ → List ℕ → Bool
+untouched lent = list_all (λ (x : ℕ). eqb x lent)
 
 -- n ids of two bytes each, from i on
 unfoldable pub ids_from : List ℕ → ℕ → ℕ → List ℕ

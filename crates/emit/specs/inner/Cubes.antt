@@ -1,52 +1,54 @@
 -- The tetrahedra between a cube and the next one along an axis, and what is written for them.
-use Rattle.std.specs.Prelude.{ℕ, ◌+◌, ◌*◌, ◌≤◌, ◌<◌, ◌≡◌, List, Bool, pos, eqb, length, get_or, if◌then◌else◌}
+use Rattle.std.specs.Prelude.{ℕ, ◌+◌, ◌*◌, ◌≤◌, ◌<◌, ◌≡◌, List, [], ◌∷◌, Bool, pos, eqb, length, get_or, if◌then◌else◌}
 use Rattle.std.specs.Int.Signed.{lt_z}
 use Rattle.basics.specs.Lists.{gather, below}
 use Rattle.lattice.specs.Axis.{xyz}
 use Rattle.geometry.specs.Place.{Place}
 use Rattle.geometry.specs.Volume.{six_volume}
 use Rattle.moving.specs.declared.Label.{Label}
+use Rattle.moving.specs.declared.Label.TheVariants.{Zero, Plus}
 use Rattle.moving.specs.Label.{is_plus}
 use Rattle.stencil.specs.Tetrahedron.{Quarter, q0, q1, q2, q3}
 use Rattle.stencil.specs.Stencil.{stencil_of}
 use Rattle.stencil.specs.inner.Sign.{winds}
 use Rattle.rows.specs.declared.Tetra.{Tetra}
-use Rattle.rows.specs.declared.Weights.{Weights}
-use Rattle.rows.specs.inner.Corners.{quarter_at}
-use Rattle.rows.specs.inner.Picks.{plus_weight, weight, sum}
+use Rattle.rows.specs.inner.Corners.{most, quarter_at}
+use Rattle.rows.specs.inner.Picks.{sum}
 use Rattle.rows.specs.inner.Stencils.{row_count, tetra_ids, tetra_most}
 use Rattle.emit.specs.declared.Cube.{Cube}
-use Rattle.emit.specs.declared.CubeWeights.{CubeWeights}
 
--- the weights of the six points when points have these labels
-unfoldable pub cube_weights : (ℕ → Label) → Cube → CubeWeights
-cube_weights label c =
-    record {
-      low = weight (label c.low);
-      high = weight (label c.high);
-      mm = weight (label c.mm);
-      pm = weight (label c.pm);
-      pp = weight (label c.pp);
-      mp = weight (label c.mp);
-    }
+-- one of the six points
+abbrev pub point_of : Cube → ℕ → ℕ
+point_of c i = get_or c.points i 0
+
+-- the labels of the six points when points have these labels
+unfoldable pub cube_labels : (ℕ → Label) → Cube → List Label
+cube_labels label c =
+    label (point_of c 0)
+    ∷ label (point_of c 1)
+    ∷ label (point_of c 2)
+    ∷ label (point_of c 3)
+    ∷ label (point_of c 4)
+    ∷ label (point_of c 5)
+    ∷ []
 
 -- two corners of the shared face and the two centres, seen along the axis, the next one and the one after, wind positively
 abbrev pub winds_with : Place → Place → Bool
 winds_with first second =
     lt_z (pos 0) (six_volume first second (xyz (pos 256) (pos 256) (pos 256)) (xyz (pos 768) (pos 256) (pos 256)))
 
--- the corners of the shared face, and their weights, in the turn
-abbrev pub face_at : Cube → Quarter → ℕ
-face_at c q0 = c.mm
-face_at c q1 = c.pm
-face_at c q2 = c.pp
-face_at c q3 = c.mp
+-- which of the six points the corners of the shared face are, in the turn; their numbers, and their labels
+abbrev pub face_index : Quarter → ℕ
+face_index q0 = 2
+face_index q1 = 3
+face_index q2 = 4
+face_index q3 = 5
 
-abbrev pub face_weight : CubeWeights → Quarter → ℕ
-face_weight w q0 = w.mm
-face_weight w q1 = w.pm
-face_weight w q2 = w.pp
-face_weight w q3 = w.mp
+abbrev pub face_at : Cube → Quarter → ℕ
+face_at c q = point_of c (face_index q)
+
+abbrev pub face_label : List Label → Quarter → Label
+face_label l q = get_or l (face_index q) Zero
 
 -- the lower and the upper end of an edge of the turn, and the edge's number
 abbrev pub low_end : Quarter → Quarter
@@ -67,36 +69,31 @@ edge_number q1 = 1
 edge_number q2 = 2
 edge_number q3 = 3
 
--- the tetrahedron of an edge of the turn, its corners ascending, and their weights
+-- the tetrahedron of an edge of the turn, its corners ascending, and their labels
 abbrev pub quarter_of : Cube → Quarter → Tetra
 quarter_of c q =
-    record { axis = c.axis; edge = edge_number q; a = face_at c (low_end q); b = face_at c (high_end q); c = c.low; d = c.high }
+    record {
+      n = c.n;
+      axis = c.axis;
+      edge = edge_number q;
+      corners = face_at c (low_end q) ∷ face_at c (high_end q) ∷ point_of c 0 ∷ point_of c 1 ∷ [];
+    }
 
-abbrev pub quarter_weights : CubeWeights → Quarter → Weights
-quarter_weights w q = record { a = face_weight w (low_end q); b = face_weight w (high_end q); c = w.low; d = w.high }
+abbrev pub quarter_labels : List Label → Quarter → List Label
+quarter_labels l q = face_label l (low_end q) ∷ face_label l (high_end q) ∷ get_or l 0 Zero ∷ get_or l 1 Zero ∷ []
 
 -- six points of a block of n points
 pub record KnownCube (n : ℕ) (c : Cube) : Type 0 where
+  pub block : c.n ≡ n
+  pub few : n ≤ most
   pub axis_in : c.axis < 3
-  pub low_in : c.low < n
-  pub high_in : c.high < n
-  pub mm_in : c.mm < n
-  pub pm_in : c.pm < n
-  pub pp_in : c.pp < n
-  pub mp_in : c.mp < n
-
--- weights of labels
-pub record SmallCube (w : CubeWeights) : Type 0 where
-  pub low_small : w.low ≤ plus_weight
-  pub high_small : w.high ≤ plus_weight
-  pub mm_small : w.mm ≤ plus_weight
-  pub pm_small : w.pm ≤ plus_weight
-  pub pp_small : w.pp ≤ plus_weight
-  pub mp_small : w.mp ≤ plus_weight
+  pub six : length c.points ≡ 6
+  pub points_in : (i : ℕ) → i < 6 → point_of c i < n
 
 -- f at the six points, added up
 abbrev pub total : (ℕ → ℕ) → Cube → ℕ
-total f c = f c.low + f c.high + (f c.mm + f c.pm) + (f c.pp + f c.mp)
+total f c =
+    f (point_of c 0) + f (point_of c 1) + (f (point_of c 2) + f (point_of c 3)) + (f (point_of c 4) + f (point_of c 5))
 
 abbrev pub counted : Bool → ℕ
 counted b = if b then 1 else 0
@@ -118,25 +115,24 @@ module _ (label : ℕ → Label) where
 unfoldable pub unmoved : List ℕ → Cube → Bool
 unmoved state c = eqb (total (λ p. get_or state p 0) c) 0
 
--- the weights of six plus points
-abbrev pub solid_cube : CubeWeights
-solid_cube =
-    record { low = plus_weight; high = plus_weight; mm = plus_weight; pm = plus_weight; pp = plus_weight; mp = plus_weight }
+-- the labels of six plus points
+abbrev pub solid_cube : List Label
+solid_cube = Plus ∷ Plus ∷ Plus ∷ Plus ∷ Plus ∷ Plus ∷ []
 
--- what is written for the tetrahedron of an edge of the turn, by the weights of the six points
-unfoldable pub edge_ids : ℕ → Cube → CubeWeights → ℕ → List ℕ
-edge_ids n c w e = let q = quarter_at e in tetra_ids n (winds q) (quarter_of c q) (quarter_weights w q)
+-- what is written for the tetrahedron of an edge of the turn, by the labels of the six points
+unfoldable pub edge_ids : Cube → List Label → ℕ → List ℕ
+edge_ids c l e = let q = quarter_at e in tetra_ids (winds q) (quarter_of c q) (quarter_labels l q)
 
--- how many rows the four have together
-unfoldable pub cube_count : CubeWeights → ℕ
-cube_count w = count q0 + count q1 + count q2 + count q3
-  where
-    count : Quarter → ℕ
-    count q = row_count (stencil_of (sum (quarter_weights w q)))
+-- how many rows it has, and the four together
+unfoldable pub edge_count : List Label → ℕ → ℕ
+edge_count l e = row_count (stencil_of (sum (quarter_labels l (quarter_at e))))
 
--- what is written for the four tetrahedra among n points when points have these labels
-unfoldable pub cube_ids : ℕ → (ℕ → Label) → Cube → List ℕ
-cube_ids n label c = gather (edge_ids n c (cube_weights label c)) (below 4)
+unfoldable pub cube_count : List Label → ℕ
+cube_count l = edge_count l 0 + edge_count l 1 + edge_count l 2 + edge_count l 3
+
+-- what is written for the four tetrahedra when points have these labels
+unfoldable pub cube_ids : (ℕ → Label) → Cube → List ℕ
+cube_ids label c = gather (edge_ids c (cube_labels label c)) (below 4)
 
 -- at most so many numbers
 abbrev pub cube_most : ℕ

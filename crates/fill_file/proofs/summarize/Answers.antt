@@ -1,34 +1,39 @@
 -- The reader's refusals, or filling's answer for the block that was read. Assumes nothing.
-use Rattle.blockfile.proofs.Checked.{whole_readable, whole_samples, whole_cuts}
-use Rattle.fill_file.proofs.Outcome.{file_refused, file_filled}
+use native.Mathlib.Omega.{arith}
+use mathlib.Core.Path.{refl}
+use Rattle.blockfile.proofs.Checked.{whole_loaded_samples, whole_loaded_cuts}
+use Rattle.fill_file.proofs.Outcome.{refuses, refused_as, filled_as}
 use Rattle.fill_file.proofs.summarize.Goals as goal
 
-pub returns-then-r-ne0 : goal.returns-then-r-ne0
-returns-then-r-ne0 c =
-    let w = file_refused _ _ _ _ _ c.read_whole-r.ensures.value c.if-r-ne0.true c.refused.ensures in
+pub fill_read-requires : goal.fill_read-requires
+fill_read-requires c =
+    let e = c.in-Ok.ensures in
+    (whole_loaded_samples _ _ _ _ _ e.value e.samples_after, whole_loaded_cuts _ _ _ _ _ e.value e.cuts_after)
+
+pub returns-in-Ok : goal.returns-in-Ok
+returns-in-Ok c =
+    let e = c.in-Ok.ensures in
+    let f = c.fill_read.ensures in
+    let w = filled_as _ _ _ _ _ _ e.value e.samples_after e.cuts_after (f.value, (f.state_after, f.rows_after)) in
     record {
       answer = w.0;
-      samples = c.read_whole-r.ensures.samples_after;
-      cuts = c.read_whole-r.ensures.cuts_after;
+      samples = e.samples_after;
+      cuts = e.cuts_after;
       state = w.1.0;
       rows = w.1.1;
     }
 
-pub fill_read-requires : goal.fill_read-requires
-fill_read-requires c =
-    record {
-      sized = (whole_readable _ _ _ _ c.read_whole-r.ensures.value c.if-r-ne0.false).sized;
-      r_in_bounds = (whole_samples _ _ _ _ c.read_whole-r.ensures.value c.if-r-ne0.false c.read_whole-r.ensures.samples_after, whole_cuts _ _ _ _ c.read_whole-r.ensures.value c.if-r-ne0.false c.read_whole-r.ensures.cuts_after);
-    }
+pub invariant_of-result : goal.invariant_of-result
+invariant_of-result c = let h = refuses c.in-Err.refusal in record { refuses = omega (arith, c.number.ensures) }
 
-pub returns : goal.returns
-returns c =
-    let w = file_filled _ _ _ _ _ c.read_whole-r.ensures.value c.if-r-ne0.false c.read_whole-r.ensures.samples_after c.read_whole-r.ensures.cuts_after
-    (c.fill_read.ensures.value, (c.fill_read.ensures.state_after, c.fill_read.ensures.rows_after)) in
+pub returns-in-Err : goal.returns-in-Err
+returns-in-Err c =
+    let e = c.in-Err.ensures in
+    let w = refused_as _ _ _ _ _ _ (record { number = c.number.result; place = 0; refuses = search }) e.value c.number.ensures refl in
     record {
       answer = w.0;
-      samples = c.read_whole-r.ensures.samples_after;
-      cuts = c.read_whole-r.ensures.cuts_after;
+      samples = e.samples_after;
+      cuts = e.cuts_after;
       state = w.1.0;
       rows = w.1.1;
     }

@@ -2,8 +2,7 @@
 use Rattle.std.specs.Prelude.{ℕ, List, [], ◌∷◌, ◌++◌, pos, replicate}
 use Rattle.casebook.specs.cases.Given.{unchanged, byte_at, sample_at, changed}
 use Rattle.blockfile.specs.inner.Write.{write}
-use Rattle.fill_file.specs.declared.Summary.{Summary}
-use Rattle.fill_file.specs.program.Summary.{refusal, summary}
+use Rattle.fill_file.specs.program.Summary.{Summary, refusal, summary}
 
 -- "points N, lattice tetrahedra, M, T"
 abbrev pub lines : ℕ → ℕ → ℕ → ℕ → Summary

@@ -3,8 +3,7 @@
 --     output     for all bytes of its input
 use Rattle.std.specs.Prelude.{ℕ, List, [], ◌∷◌, ◌++◌, pos, replicate, eqb, if◌then◌else◌}
 use Rattle.text.specs.Text.{ascii, decimal, line}
-use Rattle.fill_file.specs.declared.Summary.{Summary}
-use Rattle.fill_file.specs.program.Summary.{bench_points, bench_cuts, bench_rows, summary}
+use Rattle.fill_file.specs.program.Summary.{Summary, bench_points, bench_cuts, bench_rows, summary}
 
 -- "Whole output: points N, lattice tetrahedra, M, T", a line each
 unfoldable pub count_lines : Summary → List ℕ

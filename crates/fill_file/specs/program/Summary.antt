@@ -7,7 +7,6 @@ use Rattle.filling.specs.declared.Filled.{Filled}
 use Rattle.filling.specs.Fill.{fill}
 use Rattle.yakuemi.specs.Measures.{measure}
 use Rattle.blockfile.specs.Format.{read_sizes, read_whole}
-use Rattle.fill_file.specs.declared.Summary.{Summary}
 
 -- 12 "bench": "a size of 6 to 64 in the program"
 abbrev pub bench_limit : ℕ
@@ -23,6 +22,15 @@ bench_cuts = 2387
 
 abbrev pub bench_rows : ℕ
 bench_rows = 14400
+
+-- 0 with the four counts, or a refusal's number and place with zeros
+pub record Summary : Type 0 where
+  pub number : ℕ
+  pub place : ℕ
+  pub points : ℕ
+  pub lattice : ℕ
+  pub moved : ℕ
+  pub emitted : ℕ
 
 -- "A refusal prints one line, "refused", number, place"
 unfoldable pub refusal : ℕ → ℕ → Summary

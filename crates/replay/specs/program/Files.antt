@@ -4,8 +4,7 @@
 -- every cut byte holds beforehand; 32 number answered, 36 where the file ends, 40, 42, 44 the sizes, two bytes each; else zeros.
 -- Body: the file; after reading the samples, two bytes each, and the cut bytes.
 use Rattle.std.specs.Prelude.{ℕ, ◌+◌, ◌*◌, Bool, false, ◌&&◌, List, ℤ, length, take, drop, replicate, eqb, leb, if◌then◌else◌}
-use Rattle.blockfile.specs.declared.Read.{Read}
-use Rattle.blockfile.specs.Format.{Outcome, one_at, two_at, four_at, samples_from, read}
+use Rattle.blockfile.specs.Format.{Read, Outcome, one_at, two_at, four_at, samples_from, read}
 use Rattle.comparison.specs.program.Same.{same, same_samples}
 use Rattle.replay.specs.declared.Filed.{Filed}
 

@@ -1,74 +1,64 @@
 -- The table of patterns and rows over the corners that the code holds, and the ids that are written.
-use Rattle.std.specs.Prelude.{ℕ, ◌+◌, ◌*◌, ◌≤◌, ◌<◌, Bool, not, List, [], ◌∷◌, length}
+use Rattle.std.specs.Prelude.{ℕ, ◌*◌, ◌<◌, Bool, not, List, [], ◌∷◌, get_or, if◌then◌else◌}
 use Rattle.std.specs.Bool.{beq}
 use Rattle.basics.specs.Lists.{gather}
 use Rattle.lattice.specs.Counts.{largest}
+use Rattle.moving.specs.declared.Label.{Label}
+use Rattle.moving.specs.declared.Label.TheVariants.{Plus}
 use Rattle.stencil.specs.Stencil.{Stencil, no_plus, plus_zero_only, +++-, ++--, ++-0, +---, +--0, +-00, stencil_of}
-use Rattle.rows.specs.declared.Corner.{Corner}
-use Rattle.rows.specs.declared.Row.{Row}
-use Rattle.rows.specs.declared.Rows.{Rows}
-use Rattle.rows.specs.declared.Rows.TheVariants.{None, One, Two, Three}
 use Rattle.rows.specs.declared.Tetra.{Tetra}
-use Rattle.rows.specs.declared.Weights.{Weights}
-use Rattle.rows.specs.declared.Order.{Order}
-use Rattle.rows.specs.inner.Corners.{most, Tetrahedral, KnownRow, turned, point_at, cut_at, row_ids}
-use Rattle.rows.specs.inner.Picks.{plus_weight, sum, ordered, is_even}
+use Rattle.rows.specs.inner.Corners.{point_id, cut_id}
+use Rattle.rows.specs.inner.Picks.{sum, ordered, is_even}
 
--- a tetrahedron of one of the kinds, and an order of its corners
-pub record InOrder (t : Tetra) (o : Order) : Type 0 where
-  pub kind : Tetrahedral t
-  pub places : (o.first < 4) × (o.second < 4) × (o.third < 4) × (o.fourth < 4)
+-- an order of the four corners
+pub record InOrder (o : List ℕ) : Type 0 where
+  pub first_in : get_or o 0 0 < 4
+  pub second_in : get_or o 1 0 < 4
+  pub third_in : get_or o 2 0 < 4
+  pub fourth_in : get_or o 3 0 < 4
 
 -- document 01's table over any kind of corners: o holds the plus, the minus and the zero corners. Where the order winds as it should
 -- (true), so do the rows that bring in its corners in that order, and the others wind the other way round
 module _ {A B : Type 0} (point : ℕ → A) (cut : ℕ → ℕ → A) (row : Bool → A → A → A → A → B) where
-  unfoldable pub lines : Stencil → Order → Bool → List B
-  lines no_plus o k = []
-  lines plus_zero_only o k = row k (point o.first) (point o.second) (point o.third) (point o.fourth) ∷ []
-  lines +++- o k =
-      row k (point o.first) (point o.second) (point o.third) (cut o.third o.fourth)
-      ∷ row (not k) (point o.first) (point o.second) (cut o.second o.fourth) (cut o.third o.fourth)
-      ∷ row k (point o.first) (cut o.first o.fourth) (cut o.second o.fourth) (cut o.third o.fourth)
+  unfoldable pub lines_by : Stencil → ℕ → ℕ → ℕ → ℕ → Bool → List B
+  lines_by no_plus a b c d k = []
+  lines_by plus_zero_only a b c d k = row k (point a) (point b) (point c) (point d) ∷ []
+  lines_by +++- a b c d k =
+      row k (point a) (point b) (point c) (cut c d)
+      ∷ row (not k) (point a) (point b) (cut b d) (cut c d)
+      ∷ row k (point a) (cut a d) (cut b d) (cut c d)
       ∷ []
-  lines ++-- o k =
-      row k (point o.first) (point o.second) (cut o.second o.third) (cut o.second o.fourth)
-      ∷ row k (point o.first) (cut o.first o.third) (cut o.first o.fourth) (cut o.second o.fourth)
-      ∷ row (not k) (point o.first) (cut o.first o.third) (cut o.second o.third) (cut o.second o.fourth)
+  lines_by ++-- a b c d k =
+      row k (point a) (point b) (cut b c) (cut b d)
+      ∷ row k (point a) (cut a c) (cut a d) (cut b d)
+      ∷ row (not k) (point a) (cut a c) (cut b c) (cut b d)
       ∷ []
-  lines ++-0 o k =
-      row k (point o.first) (point o.second) (cut o.second o.third) (point o.fourth)
-      ∷ row (not k) (point o.first) (cut o.first o.third) (cut o.second o.third) (point o.fourth)
+  lines_by ++-0 a b c d k =
+      row k (point a) (point b) (cut b c) (point d)
+      ∷ row (not k) (point a) (cut a c) (cut b c) (point d)
       ∷ []
-  lines +--- o k = row k (point o.first) (cut o.first o.second) (cut o.first o.third) (cut o.first o.fourth) ∷ []
-  lines +--0 o k = row k (point o.first) (cut o.first o.second) (cut o.first o.third) (point o.fourth) ∷ []
-  lines +-00 o k = row k (point o.first) (cut o.first o.second) (point o.third) (point o.fourth) ∷ []
+  lines_by +--- a b c d k = row k (point a) (cut a b) (cut a c) (cut a d) ∷ []
+  lines_by +--0 a b c d k = row k (point a) (cut a b) (cut a c) (point d) ∷ []
+  lines_by +-00 a b c d k = row k (point a) (cut a b) (point c) (point d) ∷ []
 
--- the rows of a stencil as the code holds them
-abbrev pub turned_row : Bool → Corner → Corner → Corner → Corner → Row
-turned_row keep a b c d = turned keep (record { a = a; b = b; c = c; d = d })
+  abbrev pub lines : Stencil → List ℕ → Bool → List B
+  lines st o k = lines_by st (get_or o 0 0) (get_or o 1 0) (get_or o 2 0) (get_or o 3 0) k
 
-abbrev pub stencil_rows : Tetra → Order → Bool → Stencil → List Row
-stencil_rows t o keep st = lines (point_at t) (cut_at t) turned_row st o keep
+-- the ids of a row as they are, or with the last two exchanged
+unfoldable pub turned : Bool → List ℕ → List ℕ
+turned keep r =
+    let a = get_or r 0 0 in
+    let b = get_or r 1 0 in
+    let c = get_or r 2 0 in
+    let d = get_or r 3 0 in
+    if keep then a ∷ b ∷ c ∷ d ∷ [] else a ∷ b ∷ d ∷ c ∷ []
 
-abbrev pub listed : Rows → List Row
-listed None = []
-listed (One a) = a ∷ []
-listed (Two a b) = a ∷ b ∷ []
-listed (Three a b c) = a ∷ b ∷ c ∷ []
+abbrev pub turned_row : Bool → ℕ → ℕ → ℕ → ℕ → List ℕ
+turned_row keep a b c d = turned keep (a ∷ b ∷ c ∷ d ∷ [])
 
--- all corners are of a block of n points
-pub data KnownRows (n : ℕ) : List Row → Type 0 where
-  none : KnownRows n []
-  more : {r : Row} {l : List Row} → KnownRow n r → KnownRows n l → KnownRows n (r ∷ l)
-
-unfoldable pub all_ids : ℕ → List Row → List ℕ
-all_ids n l = gather (row_ids n) l
-
--- rows that may be written into a table of m numbers from an index on: their corners are known, and there is room for them
-pub record Ready (n : ℕ) (rows : List Row) (m at : ℕ) : Type 0 where
-  pub few : n ≤ most
-  pub known : KnownRows n rows
-  pub room : at + 4 * length rows ≤ m
+-- what is written for a stencil
+unfoldable pub stencil_ids : Tetra → List ℕ → Bool → Stencil → List ℕ
+stencil_ids t o keep st = gather (λ r. r) (lines (point_id t) (cut_id t) turned_row st o keep)
 
 -- how many rows a stencil has
 unfoldable pub row_count : Stencil → ℕ
@@ -81,27 +71,13 @@ row_count +--- = 1
 row_count +--0 = 1
 row_count +-00 = 1
 
--- a tetrahedron among n points; weights of labels
-pub record KnownTetra (n : ℕ) (t : Tetra) : Type 0 where
-  pub kind : Tetrahedral t
-  pub a_in : t.a < n
-  pub b_in : t.b < n
-  pub c_in : t.c < n
-  pub d_in : t.d < n
+-- what is written for a tetrahedron whose corners wind positively, ascending (true), or do not, by its labels
+unfoldable pub tetra_ids : Bool → Tetra → List Label → List ℕ
+tetra_ids wound t l = stencil_ids t (ordered l) (beq wound (is_even l)) (stencil_of (sum l))
 
-pub record Small (w : Weights) : Type 0 where
-  pub a_small : w.a ≤ plus_weight
-  pub b_small : w.b ≤ plus_weight
-  pub c_small : w.c ≤ plus_weight
-  pub d_small : w.d ≤ plus_weight
-
--- what is written for a tetrahedron whose corners wind positively, ascending (true), or do not, by the weights of its labels
-unfoldable pub tetra_ids : ℕ → Bool → Tetra → Weights → List ℕ
-tetra_ids n wound t w = all_ids n (stencil_rows t (ordered w) (beq wound (is_even w)) (stencil_of (sum w)))
-
--- the weights of four plus corners
-abbrev pub solid : Weights
-solid = record { a = plus_weight; b = plus_weight; c = plus_weight; d = plus_weight }
+-- four plus corners
+abbrev pub solid : List Label
+solid = Plus ∷ Plus ∷ Plus ∷ Plus ∷ []
 
 -- no tetrahedron has more numbers in its rows: three rows of four
 abbrev pub tetra_most : ℕ

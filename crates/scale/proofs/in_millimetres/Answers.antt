@@ -1,22 +1,22 @@
 -- The place call's refusals, then 13, then the point. Assumes nothing.
 use mathlib.Core.Path.{sym, ap, ◌∙◌}
+use Rattle.refusals.specs.inner.Numbers.{number_of}
 use Rattle.metric.specs.declared.Metric.{Metric}
+use Rattle.metric.specs.Millimetres.{unplaced_mm}
 use Rattle.metric.proofs.Cases.{own_refusal, unit_refusal, in_steps}
 use Rattle.scale.proofs.in_millimetres.Goals as goal
 
 pub returns-then-p-ne0 : goal.returns-then-p-ne0
-returns-then-p-ne0 c =
-    let a = c.args in
-    c.refused.ensures ∙ own_refusal a.unit a.p c.if-p-ne0.true
+returns-then-p-ne0 c = c.refused.ensures ∙ own_refusal c.args.unit c.args.p c.if-p-ne0.true
 
 pub returns-then-not-unit_fits : goal.returns-then-not-unit_fits
+unfolding number_of
 returns-then-not-unit_fits c =
-    let a = c.args in
-    let out = sym c.unit_fits.ensures ∙ c.if-not-unit_fits.true in
-    c.refused-then-not-unit_fits.ensures ∙ unit_refusal a.unit a.p c.if-p-ne0.false out
+    c.refused-then-not-unit_fits.ensures
+    ∙ ap unplaced_mm c.number.ensures
+    ∙ unit_refusal c.args.unit c.args.p c.if-p-ne0.false (sym c.unit_fits.ensures ∙ c.if-not-unit_fits.true)
 
 pub returns : goal.returns
 returns c =
-    let a = c.args in
-    let in_range = sym c.unit_fits.ensures ∙ c.if-not-unit_fits.false in
-    ap (λ (m : Metric). record { number = 0; point = m }) c.point-m.ensures ∙ in_steps a.unit a.p c.if-p-ne0.false in_range
+    ap (λ (m : Metric). record { number = 0; point = m }) c.point.ensures
+    ∙ in_steps c.args.unit c.args.p c.if-p-ne0.false (sym c.unit_fits.ensures ∙ c.if-not-unit_fits.false)

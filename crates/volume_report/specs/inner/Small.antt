@@ -1,9 +1,8 @@
 -- How large an entry's numbers and the totals can be, so that no total overflows.
 use Rattle.std.specs.Prelude.{ℕ, ◌*◌, ◌≤◌}
 use Rattle.bounds.specs.inner.Most.{volume_most, rows_most}
-use Rattle.volume_report.specs.declared.Entry.{Entry}
 use Rattle.volume_report.specs.declared.Tally.{Tally}
-use Rattle.volume_report.specs.program.Report.{most_files}
+use Rattle.volume_report.specs.program.Report.{Entry, most_files}
 
 -- the sum of a block's six-volumes
 abbrev pub sum_most : ℕ

@@ -10,10 +10,9 @@ use Rattle.filling.specs.Mesh.{row_volume}
 use Rattle.filling.specs.Demand.{rows_read}
 use Rattle.boundary.specs.Sum.{sum, smallest}
 use Rattle.blockfile.specs.Format as file
-use Rattle.fill_file.specs.declared.Summary.{Summary}
 use Rattle.fill_file.specs.program.Summary as bench
+use Rattle.fill_file.specs.program.Summary.{Summary}
 use Rattle.text.specs.Text.{ascii, decimal, line}
-use Rattle.volume_report.specs.declared.Entry.{Entry}
 use Rattle.volume_report.specs.declared.Tally.{Tally}
 
 -- "the coarse block of each mount within the bench program's sizes": the file that starts the bytes is read, "What follows a whole file is
@@ -24,6 +23,17 @@ opened bytes = file.read bytes bench.bench_limit (replicate bench.bench_points (
 unfoldable pub filled : file.Outcome → bench.Outcome
 filled o =
     bench.fill_read (file.read_sizes o.answer) o.samples o.cuts (replicate bench.bench_points 0) (replicate bench.bench_rows 0)
+
+-- what a file's line says: 0 with T, M, the sum of the six-volumes and the smallest, or a refusal's number and place with zeros; and where in
+-- the bytes the file ends, 0 where nobody knows
+pub record Entry : Type 0 where
+  pub number : ℕ
+  pub place : ℕ
+  pub tetrahedra : ℕ
+  pub moved : ℕ
+  pub sum : ℕ
+  pub smallest : ℕ
+  pub end : ℕ
 
 -- "T, M, the sum of six-volumes and the smallest six-volume, 0 if there are no rows". Every six-volume is above 0 (demand 3), so its size is
 -- written

@@ -1,12 +1,13 @@
 -- Ids in windows of a table of bits, and the row table in parts.
 --     window, words, windows     the ids of a window, its words of 64, and how many windows hold every id below 8N
 --     part, parts, last_part, slot    the entries of a part of the rows, and where its hits are kept
+--     Outside                    an id that is not in a window
 --     AtMost, Grows              a part's entries are at most this; bits that were set stay set
 --     Beyond, Told, Spread       an id past the last window; the hits of a part, and of all rows
 --     Known                      the hits of one window
 --     Missed, NextHit            windows that are not hit
 --     Marks, Windowed            the ids of some rows that are in a window are marked
---     in_window, put_in, look_in    an id of a window becomes its number, counted or looked up
+--     in_window, put_in          an id of a window becomes what a function says, or its number
 --     Unrolled, Rewrites         the table of a window's numbers; a table rewritten
 use Rattle.std.specs.Prelude.{ℕ, ◌+◌, ◌*◌, ◌-◌, ◌/◌, ◌≤◌, ◌<◌, ◌≡◌, true, false, ◌||◌, List, length, get_or, ltb, leb, if◌then◌else◌}
 use Rattle.basics.specs.Lists.{count}
@@ -39,6 +40,10 @@ hit_words = 3168
 
 unfoldable pub slot : ℕ → ℕ → ℕ
 slot w p = parts * w + (if ltb p last_part then p else last_part)
+
+-- an id that is not in the window from lo on
+pub record Outside (lo id : ℕ) : Type 0 where
+  pub is : (k : ℕ) → k < window → id ≡ lo + k → ⊥
 
 pub record AtMost (most : ℕ) (rows : List ℕ) : Type 0 where
   pub is : (j : ℕ) → j < length rows → get_or rows j 0 ≤ most
@@ -94,10 +99,6 @@ in_window f lo id = if leb lo id then (if ltb (id - lo) window then f (id - lo) 
 -- its number, where the window's first id in use has the number first
 unfoldable pub put_in : List ℕ → ℕ → ℕ → ℕ → ℕ
 put_in bits first lo id = in_window (λ k. first + count (marked bits) k) lo id
-
--- what a table says
-unfoldable pub look_in : List ℕ → ℕ → ℕ → ℕ
-look_in numbers lo id = in_window (λ k. get_or numbers k 0) lo id
 
 -- the table of the window's numbers
 pub record Unrolled (bits : List ℕ) (first : ℕ) (numbers : List ℕ) : Type 0 where

@@ -1,36 +1,12 @@
--- Each way out by the checks that led there. Assumes nothing.
-use mathlib.Core.Path.{sym, ◌∙◌}
-use Rattle.lattice.proofs.Sized.{fits_sized}
-use Rattle.blockfile.proofs.Outcome.{answer_of_law, refusal_is, refuse_short, refuse_size, refuse_bench, go_on}
+-- The sizes are refused, or what follows them decides. Assumes nothing.
+use Rattle.std.proofs.lemmas.Result.{err_from_is_err_and}
+use Rattle.blockfile.proofs.Outcome.{shut_is, open_is}
 use Rattle.blockfile.proofs.file.check.Goals as goal
 
-pub returns-then-bytes-lt3 : goal.returns-then-bytes-lt3
-returns-then-bytes-lt3 c =
-    refusal_is _ _ 11 (refuse_short _ _ _ _ c.if-bytes-lt3.true) c.refused.ensures
-
-pub returns-then-not-sizes_fit : goal.returns-then-not-sizes_fit
-returns-then-not-sizes_fit c =
-    refusal_is _ _ 1
-    (refuse_size _ _ _ _ c.sizes_of-s.ensures c.if-bytes-lt3.false
-    (sym c.sizes_fit.ensures ∙ c.if-not-sizes_fit.true))
-    c.refused-then-not-sizes_fit.ensures
-
-pub returns-then-is_beyond : goal.returns-then-is_beyond
-returns-then-is_beyond c =
-    refusal_is _ _ 12
-    (refuse_bench _ _ _ _ c.sizes_of-s.ensures c.if-bytes-lt3.false
-    (sym c.sizes_fit.ensures ∙ c.if-not-sizes_fit.false)
-    (sym c.is_beyond.ensures ∙ c.if-is_beyond.true))
-    c.refused-then-is_beyond.ensures
-
-pub check_body-requires : goal.check_body-requires
-check_body-requires c =
-    fits_sized _ (sym c.sizes_fit.ensures ∙ c.if-not-sizes_fit.false)
+pub returns-in_err-lattice : goal.returns-in_err-lattice
+returns-in_err-lattice c =
+    let p = err_from_is_err_and c.from_residual.result c.from_residual.ensures.1 in
+    rw (p.1, p.2) (shut_is _ _ _ _ c.in_err-lattice.ensures)
 
 pub returns : goal.returns
-returns c =
-    answer_of_law
-    (go_on _ _ _ _ c.sizes_of-s.ensures c.if-bytes-lt3.false
-    (sym c.sizes_fit.ensures ∙ c.if-not-sizes_fit.false)
-    (sym c.is_beyond.ensures ∙ c.if-is_beyond.false))
-    c.check_body.ensures
+returns c = open_is _ _ _ _ c.in_ok-lattice.ensures c.check_body.ensures

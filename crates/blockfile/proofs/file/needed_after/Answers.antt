@@ -8,7 +8,7 @@ pub returns-then-bytes-head : goal.returns-then-bytes-head
 returns-then-bytes-head c = sym (up_to_headers _ _ c.if-bytes-head.true)
 
 pub returns-then-bytes-first : goal.returns-then-bytes-first
-returns-then-bytes-first c = sym (up_to_runs _ _ c.two_at.ensures.value c.if-bytes-head.false c.if-bytes-first.true)
+returns-then-bytes-first c = sym (up_to_runs _ _ (c.from.ensures ∙ c.two_at.ensures) c.if-bytes-head.false c.if-bytes-first.true)
 
 pub returns : goal.returns
 returns c = c.end_of.ensures ∙ sym (up_to_end _ _ (omega (arith, c.before)))

@@ -1,25 +1,27 @@
 -- As reading, with a refusal of what follows the file. Assumes nothing.
-use Rattle.blockfile.proofs.Checked.{is_of, refused_is, untouched, readable_as, ready, written, whole_refused, whole_long, whole_all}
+use Rattle.std.proofs.lemmas.Result.{err_from_is_err_and}
+use Rattle.blockfile.proofs.Checked.{is_of, whole_handed_on, loaded_ready, loaded_written, loaded_long, loaded_all}
 use Rattle.blockfile.proofs.file.read_whole.Goals as goal
 
-pub returns-then-r-ne0 : goal.returns-then-r-ne0
-returns-then-r-ne0 c =
-    let whole = is_of (whole_refused _ _ _ _ c.check-r.ensures c.if-r-ne0.true) (untouched _ _ _ _ c.check-r.ensures c.if-r-ne0.true) in record { value = whole.0; samples_after = whole.1.0; cuts_after = whole.1.1 }
+pub returns-in_err-loaded : goal.returns-in_err-loaded
+returns-in_err-loaded c =
+    let p = err_from_is_err_and c.from_residual.result c.from_residual.ensures.1 in
+    let w = whole_handed_on _ _ _ _ _ c.in_err-loaded.ensures in
+    rw (p.1, p.2) (record { value = w.0; samples_after = w.1.0; cuts_after = w.1.1 })
 
-pub returns-then-r-bytes : goal.returns-then-r-bytes
-returns-then-r-bytes c =
-    let whole = is_of (whole_long _ _ _ _ c.check-r.ensures c.if-r-ne0.false c.if-r-bytes.true)
-    (refused_is _ _ 11 c.refused.ensures) in record { value = whole.0; samples_after = whole.1.0; cuts_after = whole.1.1 }
-
-pub points_of-requires : goal.points_of-requires
-points_of-requires c =
-    (readable_as _ _ _ _ c.check-r.ensures c.if-r-ne0.false).sized
+pub returns-then-loaded-bytes : goal.returns-then-loaded-bytes
+returns-then-loaded-bytes c =
+    let w = loaded_long _ _ _ _ _ c.in_ok-loaded.ensures c.if-loaded-bytes.true in
+    record { value = w.0; samples_after = w.1.0; cuts_after = w.1.1 }
 
 pub write_tables-requires : goal.write_tables-requires
 write_tables-requires c =
-    let whole = ready _ _ _ _ c.check-r.ensures c.if-r-ne0.false c.points_of.ensures in record { n_le_most_points = whole.0; n_in_bounds = whole.1 }
+    let w = loaded_ready _ _ _ _ _ c.in_ok-loaded.ensures c.point_count.ensures in
+    record { n_le_most_points = w.0; n_in_bounds = w.1 }
 
 pub returns : goal.returns
 returns c =
-    let e = c.if-r-ne0.false in
-    let whole = is_of (whole_all _ _ _ _ c.check-r.ensures e c.if-r-bytes.false) (written _ _ _ _ c.check-r.ensures e c.points_of.ensures c.write_tables.ensures.samples_after c.write_tables.ensures.cuts_after) in record { value = whole.0; samples_after = whole.1.0; cuts_after = whole.1.1 }
+    let e = c.in_ok-loaded.ensures in
+    let w = is_of (loaded_all _ _ _ _ _ e c.if-loaded-bytes.false)
+    (loaded_written _ _ _ _ _ e c.point_count.ensures c.write_tables.ensures.samples_after c.write_tables.ensures.cuts_after) in
+    record { value = w.0; samples_after = w.1.0; cuts_after = w.1.1 }

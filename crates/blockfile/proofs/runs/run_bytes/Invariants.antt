@@ -1,10 +1,6 @@
 -- After i runs, their bytes and those of the rest make the whole. Assumes nothing.
-use Prim.Native.Nat.{◌-◌}
 use Rattle.blockfile.proofs.Fitting.{Summed}
 use Rattle.blockfile.proofs.runs.run_bytes.Given as goal
 
 abbrev pub invariant-loop-i : goal.invariant-loop-i
 invariant-loop-i l = Summed l.bytes l.head l.count l.sum l.i
-
-abbrev pub decreases-loop-i : goal.decreases-loop-i
-decreases-loop-i l = l.count - l.i

@@ -6,18 +6,16 @@ use Rattle.blockfile.proofs.runs.runs_fit.Goals as goal
 pub loop-i-init : goal.loop-i-init
 loop-i-init c = fitted_first
 
-pub run_fits-requires : goal.run_fits-requires
-run_fits-requires c = c.run_at-r.ensures.offset_bound
-
 pub returns-then-not-run_fits : goal.returns-then-not-run_fits
 returns-then-not-run_fits c =
     fitted_not c.loop-i.invariant c.loop-i-test.true
-    c.run_at-r.ensures.value (sym c.run_fits.ensures ∙ c.if-not-run_fits.true)
+    c.run_at-r.ensures (sym c.run_fits.ensures ∙ c.if-not-run_fits.true)
 
 pub loop-i-preserved : goal.loop-i-preserved
 loop-i-preserved c =
-    fitted_next c.loop-i.invariant c.loop-i-test.true
-    c.run_at-r.ensures.value (sym c.run_fits.ensures ∙ c.if-not-run_fits.false)
+    rw c.end-least.ensures
+    (fitted_next c.loop-i.invariant c.loop-i-test.true
+    c.run_at-r.ensures (sym c.run_fits.ensures ∙ c.if-not-run_fits.false))
 
 pub returns : goal.returns
 returns c = fitted_all c.loop-i.invariant c.loop-i-test.false

@@ -1,5 +1,5 @@
 -- What is left of the samples, written, gives all of them. Assumes nothing.
-use Prim.Native.Nat.{◌+◌, ◌*◌, ◌-◌, ◌≤◌}
+use Prim.Native.Nat.{◌+◌, ◌*◌, ◌-◌}
 use mathlib.Core.Path.{◌≡◌}
 use lib.ListN.{length}
 use lib.Seq.{sets}
@@ -8,9 +8,5 @@ use Rattle.blockfile.proofs.samples.write_samples.Given as goal
 
 abbrev pub invariant-loop-i : goal.invariant-loop-i
 invariant-loop-i l =
-    (l.i ≤ l.n)
-    × (length l.samples ≡ length l.initial.samples)
-    × (sets l.samples l.i (samples_from l.bytes (3 + 2 * l.i) (l.n - l.i)) ≡ sets l.initial.samples 0 (samples_from l.bytes 3 l.n))
-
-abbrev pub decreases-loop-i : goal.decreases-loop-i
-decreases-loop-i l = l.n - l.i
+    (length l.sample-items ≡ l.n)
+    × (sets l.sample-items l.i (samples_from l.bytes (3 + 2 * l.i) (l.n - l.i)) ≡ sets l.initial.sample-items 0 (samples_from l.bytes 3 l.n))

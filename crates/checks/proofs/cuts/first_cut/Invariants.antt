@@ -1,13 +1,12 @@
--- The loop's invariant: q starts a line, and no byte before it is at fault. Assumes nothing.
-use Prim.Native.Nat.{◌*◌, ◌-◌}
-use Rattle.moving.specs.Label.{labels}
+-- The loop's invariant: no byte before those of the next line is at fault. Assumes nothing.
+use Rattle.std.proofs.Common.{ℕ, ◌*◌}
+use Rattle.labelling.specs.inner.Scans.{label_in}
 use Rattle.filling.specs.Check.{cut_fault}
-use Rattle.lines.specs.inner.Lines.{Line}
+use Rattle.lines.specs.inner.Walk.{Walks}
 use Rattle.checks.specs.inner.Search.{Throughout}
 use Rattle.checks.proofs.cuts.first_cut.Given as goal
 
-abbrev pub invariant-loop-o : goal.invariant-loop-o
-invariant-loop-o l = Line l.s l.q.own l.q × Throughout (cut_fault l.s (labels l.band l.samples) l.cuts) 0 0 (7 * l.q.own)
-
-abbrev pub decreases-loop-o : goal.decreases-loop-o
-decreases-loop-o l = l.n - l.q.own
+abbrev pub invariant-loop-q : goal.invariant-loop-q
+invariant-loop-q l =
+    (p : ℕ) × Walks l.table.scan.lattice.sizes p l.q-iterator
+    × Throughout (cut_fault l.table.scan.lattice.sizes (label_in l.table.scan) l.table.cuts.now) 0 0 (7 * p)

@@ -1,8 +1,8 @@
 -- The loop's invariant: from the first point on, no byte before those of the point of index x is at fault. Assumes nothing.
-use Prim.Native.Nat.{◌+◌, ◌*◌, ◌-◌, ◌≤◌}
+use Prim.Native.Nat.{◌+◌, ◌*◌, ◌≤◌}
 use Rattle.lattice.specs.Axis.{along_x}
 use Rattle.lattice.specs.Counts.{grid}
-use Rattle.moving.specs.Label.{labels}
+use Rattle.labelling.specs.inner.Scans.{label_in}
 use Rattle.filling.specs.Check.{cut_fault}
 use Rattle.checks.specs.inner.Search.{Throughout}
 use Rattle.checks.proofs.Walk.{Room}
@@ -10,8 +10,5 @@ use Rattle.checks.proofs.cuts.part_search.Given as goal
 
 abbrev pub invariant-loop-x : goal.invariant-loop-x
 invariant-loop-x l =
-    Room l.s l.own (grid l.s l.q.kind along_x) × (l.from ≤ l.x) × (l.x ≤ l.to)
-    × Throughout (cut_fault l.s (labels l.band l.samples) l.cuts) 0 (7 * (l.own + l.from)) (7 * (l.own + l.x))
-
-abbrev pub decreases-loop-x : goal.decreases-loop-x
-decreases-loop-x l = l.to - l.x
+    Room l.table.scan.lattice.sizes l.q.own (grid l.table.scan.lattice.sizes l.q.kind along_x) × (l.from ≤ l.x) × (l.x ≤ l.to)
+    × Throughout (cut_fault l.table.scan.lattice.sizes (label_in l.table.scan) l.table.cuts.now) 0 (7 * (l.q.own + l.from)) (7 * (l.q.own + l.x))

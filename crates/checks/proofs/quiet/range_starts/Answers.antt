@@ -4,4 +4,4 @@ use Rattle.checks.proofs.Glance.{covers}
 use Rattle.checks.proofs.quiet.range_starts.Goals as goal
 
 pub returns : goal.returns
-returns c = covers _ _ c.requires.sized c.requires.sited c.ahead-far.ensures refl refl refl refl refl
+returns c = covers _ _ c.args.lattice.sized c.requires c.ahead-far.ensures refl refl refl refl refl

@@ -1,24 +1,14 @@
--- The loop's invariant: no point before p is plus. Assumes nothing.
-use native.Mathlib.Omega.{arith}
-use mathlib.Core.Path.{sym, ◌∙◌}
-use Rattle.checks.proofs.Search.{none_yet, one_more, here, nowhere, upto}
+-- The first number of the range that passes. Assumes nothing.
+use Rattle.std.proofs.Common.{◌≡◌, true, false, ℕ, rules, tests}
+use Rattle.std.proofs.lemmas.Iterator.{first_from_Range}
+use Rattle.moving.specs.Label.{is_plus}
+use Rattle.labelling.specs.inner.Scans.{label_in}
+use Rattle.checks.proofs.Search.{found_in}
 use Rattle.checks.proofs.rim.first_plus.Goals as goal
 
-pub loop-p-init : goal.loop-p-init
-loop-p-init c = (omega arith, omega arith, none_yet (omega arith))
-
-pub is_plus-requires : goal.is_plus-requires
-is_plus-requires c = (omega arith, omega arith)
-
-pub returns-then-is_plus : goal.returns-then-is_plus
-returns-then-is_plus c =
-    let i = c.loop-p.invariant in
-    here i.0 c.loop-p-test.true (sym c.is_plus.ensures ∙ c.if-is_plus.true) i.2
-
-pub loop-p-preserved : goal.loop-p-preserved
-loop-p-preserved c =
-    let i = c.loop-p.invariant in
-    (omega arith, omega arith, one_more i.2 (sym c.is_plus.ensures ∙ c.if-is_plus.false))
-
 pub returns : goal.returns
-returns c = let i = c.loop-p.invariant in nowhere (omega arith) (upto c.loop-p-test.false i.2)
+returns c =
+    let plus = λ (p : ℕ). is_plus (label_in c.args.scan p) in
+    found_in plus c.args.from c.args.to c.find.result
+    (first_from_Range _ _ _ _ (λ i. plus i ≡ true) (λ i. plus i ≡ false) c.find.ensures.ran
+    (λ x q k. search (rules, tests)) (λ x q k. search (rules, tests)))

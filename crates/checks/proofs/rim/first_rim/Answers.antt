@@ -1,68 +1,34 @@
--- The loop's invariant: q starts a line, and no point before it is at fault. Assumes nothing.
+-- The loop's invariant: no point before the next line is at fault. Assumes nothing.
 use native.Mathlib.Omega.{arith}
-use mathlib.Core.Path.{◌∙◌}
-use Rattle.lines.proofs.Points.{points_some}
-use Rattle.lines.proofs.Lines.{line_self}
-use Rattle.checks.proofs.Search.{none_yet, joined, upto, first_lowest, none_lowest}
-use Rattle.checks.proofs.Walk.{first_line, room, next_own}
+use Rattle.lines.proofs.Lines.{line_own, line_self, line_fits}
+use Rattle.checks.proofs.Search.{joined, upto, within, first_lowest, none_lowest}
 use Rattle.checks.proofs.rim.first_rim.Goals as goal
 
-pub point_count-n-requires : goal.point_count-n-requires
-point_count-n-requires c = c.requires.sized
+pub line_rim-requires : goal.line_rim-requires
+line_rim-requires c =
+    let i = c.loop-q.invariant in
+    line_self (c.in-Some.ensures.steps _ i.0 i.1).0
 
-pub locate-q-requires : goal.locate-q-requires
-locate-q-requires c =
-    record {
-      sized = c.requires.sized;
-      p_bound = points_some _ c.requires.sized;
-    }
+pub returns-in-Some-line_rim-clause-lowest : goal.returns-in-Some-line_rim-clause-lowest
+returns-in-Some-line_rim-clause-lowest c =
+    let i = c.loop-q.invariant in
+    let l = (c.in-Some.ensures.steps _ i.0 i.1).0 in
+    first_lowest (upto (omega (arith, line_own l)) i.2) c.in-Some-line_rim.ensures (omega (arith, line_own l, line_fits l c.args.scan.lattice.sized))
 
-pub loop-s-init : goal.loop-s-init
-loop-s-init c = let f = first_line c.requires.sized c.locate-q.ensures in (f.0, none_yet (omega arith))
+pub returns-in-Some-line_rim-clause-below : goal.returns-in-Some-line_rim-clause-below
+returns-in-Some-line_rim-clause-below c =
+    let i = c.loop-q.invariant in
+    let l = (c.in-Some.ensures.steps _ i.0 i.1).0 in
+    omega (arith, c.in-Some-line_rim.ensures.high, line_own l, line_fits l c.args.scan.lattice.sized)
 
-pub line_length-requires : goal.line_length-requires
-line_length-requires c = c.requires.sized
+pub loop-q-preserved : goal.loop-q-preserved
+loop-q-preserved c =
+    let i = c.loop-q.invariant in
+    let w = c.in-Some.ensures.steps _ i.0 i.1 in
+    (_, w.1, joined i.2 (within (omega (arith, line_own w.0)) (omega (arith, line_own w.0)) c.in_default.ensures))
 
-pub overflow_add-end : goal.overflow_add-end
-overflow_add-end c =
-    let r = room c.requires.sized c.loop-s.invariant.0 c.line_length.ensures.value in
-    omega arith
-
-pub line_rim-found-requires : goal.line_rim-found-requires
-line_rim-found-requires c =
-    record {
-      sized = c.requires.sized;
-      samples_len = c.requires.samples_len;
-      line = c.loop-s.invariant.0;
-    }
-
-pub returns-then-found-end : goal.returns-then-found-end
-returns-then-found-end c =
-    let e = c.line_length.ensures.value in
-    let r = room c.requires.sized c.loop-s.invariant.0 e in
-    first_lowest c.loop-s.invariant.1 c.line_rim-found.ensures (omega arith) (omega arith)
-
-pub returns-then-n-end : goal.returns-then-n-end
-returns-then-n-end c =
-    c.point_count-n.ensures ∙ none_lowest (joined c.loop-s.invariant.1 c.line_rim-found.ensures.before) (omega arith)
-
-pub next_line-q-requires : goal.next_line-q-requires
-next_line-q-requires c =
-    let e = c.line_length.ensures.value in
-    record {
-      sized = c.requires.sized;
-      line = c.loop-s.invariant.0;
-      along_x_bound = omega arith;
-    }
-
-pub loop-s-smaller : goal.loop-s-smaller
-loop-s-smaller c =
-    let e = c.line_length.ensures.value in
-    let r = room c.requires.sized c.loop-s.invariant.0 e in
-    let o = next_own c.requires.sized c.loop-s.invariant.0 e c.next_line-q.ensures in
-    omega arith
-
-pub loop-s-preserved : goal.loop-s-preserved
-loop-s-preserved c =
-    let o = next_own c.requires.sized c.loop-s.invariant.0 c.line_length.ensures.value c.next_line-q.ensures in
-    (line_self c.next_line-q.ensures, joined c.loop-s.invariant.1 (upto (omega arith) c.line_rim-found.ensures.before))
+pub returns-clause-lowest : goal.returns-clause-lowest
+returns-clause-lowest c =
+    let i = c.loop-q.invariant in
+    let e = c.in-None.ensures.steps _ i.0 i.1 in
+    none_lowest i.2 (omega arith)

@@ -1,14 +1,11 @@
--- The loop's invariant: q starts a line, and no point before it is at fault. Assumes nothing.
-use Prim.Native.Nat.{◌-◌}
-use mathlib.Core.Bool.{false}
-use Rattle.moving.specs.Label.{labels}
+-- The loop's invariant: no point before the next line is at fault. Assumes nothing.
+use Rattle.std.proofs.Common.{ℕ, false}
+use Rattle.labelling.specs.inner.Scans.{label_in}
 use Rattle.filling.specs.Check.{rim_fault}
-use Rattle.lines.specs.inner.Lines.{Line}
+use Rattle.lines.specs.inner.Walk.{Walks}
 use Rattle.checks.specs.inner.Search.{Throughout}
 use Rattle.checks.proofs.rim.first_rim.Given as goal
 
-abbrev pub invariant-loop-s : goal.invariant-loop-s
-invariant-loop-s l = Line l.s l.q.own l.q × Throughout (rim_fault l.s (labels l.band l.samples)) false 0 l.q.own
-
-abbrev pub decreases-loop-s : goal.decreases-loop-s
-decreases-loop-s l = l.n - l.q.own
+abbrev pub invariant-loop-q : goal.invariant-loop-q
+invariant-loop-q l =
+    (p : ℕ) × Walks l.scan.lattice.sizes p l.q-iterator × Throughout (rim_fault l.scan.lattice.sizes (label_in l.scan)) false 0 p

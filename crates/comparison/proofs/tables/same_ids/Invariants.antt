@@ -1,5 +1,4 @@
 -- After i ids that stand in the table the rest decides. Assumes nothing.
-use Prim.Native.Nat.{◌≤◌}
 use mathlib.Core.Path.{◌≡◌}
 use lib.ListN.{length, drop}
 use Rattle.comparison.specs.program.Same.{same, ids_from}
@@ -8,4 +7,4 @@ use Rattle.comparison.proofs.tables.same_ids.Given as goal
 
 abbrev pub invariant-loop-i : goal.invariant-loop-i
 invariant-loop-i l =
-    (l.i ≤ l.i-end) × (l.i-end ≡ length l.rows) × (same (drop l.i l.rows) (ids_after l.rows l.bytes l.at l.i) ≡ same l.rows (ids_from l.bytes l.at (length l.rows)))
+    same (drop l.i l.rows) (ids_after l.rows l.bytes l.at l.i) ≡ same l.rows (ids_from l.bytes l.at (length l.rows))

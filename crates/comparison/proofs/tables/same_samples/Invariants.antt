@@ -1,5 +1,4 @@
 -- After i samples as stated the rest decides. Assumes nothing.
-use Prim.Native.Nat.{◌≤◌}
 use mathlib.Core.Path.{◌≡◌}
 use lib.ListN.{length, drop}
 use Rattle.blockfile.specs.Format.{samples_from}
@@ -9,6 +8,4 @@ use Rattle.comparison.proofs.tables.same_samples.Given as goal
 
 abbrev pub invariant-loop-i : goal.invariant-loop-i
 invariant-loop-i l =
-    (l.i ≤ l.i-end)
-    × (l.i-end ≡ length l.samples)
-    × (same_samples (drop l.i l.samples) (samples_after l.samples l.bytes l.at l.i) ≡ same_samples l.samples (samples_from l.bytes l.at (length l.samples)))
+    same_samples (drop l.i l.samples) (samples_after l.samples l.bytes l.at l.i) ≡ same_samples l.samples (samples_from l.bytes l.at (length l.samples))

@@ -3,8 +3,8 @@ use native.Mathlib.Omega.{arith}
 use mathlib.Core.Path.{sym}
 use mathlib.Core.Bool.{true}
 use Rattle.basics.proofs.Test.{false_F}
-use Rattle.coordinates.proofs.Checking.{placed_none, placed_all, word_placed, word_empty, word_faulty}
-use Rattle.coordinates.proofs.check.bits_placed.Goals.{then-word-ne0+else-not-word_placed, else-word-ne0}
+use Rattle.coordinates.proofs.Checking.{placed_none, word_placed, word_empty, word_faulty}
+use Rattle.coordinates.proofs.check.bits_placed.Goals.{else-word-ne0-via-then-word-ne0+else-not-word_placed, else-word-ne0-via-else-word-ne0}
 use Rattle.coordinates.proofs.check.bits_placed.Goals as goal
 
 pub loop-w-init : goal.loop-w-init
@@ -12,10 +12,7 @@ loop-w-init c = placed_none _ _
 
 pub word_placed-requires : goal.word_placed-requires
 word_placed-requires c =
-    record {
-      stored = c.requires.stored;
-      lo_bound = omega (arith, c.requires.bits_bound, c.loop-w-test.true);
-    }
+    omega (arith, c.requires, c.loop-w-test.true)
 
 pub returns-then-not-word_placed : goal.returns-then-not-word_placed
 returns-then-not-word_placed c =
@@ -26,20 +23,11 @@ returns-then-not-word_placed c =
       unplaced = (λ r. word_faulty a.bits.now a.lo _ _ (omega (arith, c.loop-w-test.true)) none);
     }
 
-pub loop-w-smaller : goal.loop-w-smaller
-loop-w-smaller c = omega (arith, c.loop-w-test.true)
-
 pub loop-w-preserved : goal.loop-w-preserved
 loop-w-preserved c =
     let a = c.args in
-    elim c.if-word-ne0.branch [
-      | then-word-ne0+else-not-word_placed w ↦ word_placed a.bits.now a.lo _ c.loop-w.invariant (w.word_placed.ensures.all_placed w.if-not-word_placed.false)
-      | else-word-ne0 w ↦ word_empty a.bits.now a.lo _ c.loop-w.invariant w.if-word-ne0.false
+    elim c.else-word-ne0.branch [
+      | else-word-ne0-via-then-word-ne0+else-not-word_placed w ↦
+          word_placed a.bits.now a.lo _ c.loop-w.invariant (w.word_placed.ensures.all_placed w.if-not-word_placed.false)
+      | else-word-ne0-via-else-word-ne0 w ↦ word_empty a.bits.now a.lo _ c.loop-w.invariant w.if-word-ne0.false
     ]
-
-pub returns : goal.returns
-returns c =
-    record {
-      all_placed = (λ r. placed_all c.loop-w.invariant _ (omega (arith, c.loop-w-test.false)));
-      unplaced = (λ r. absurd (false_F true r tt));
-    }

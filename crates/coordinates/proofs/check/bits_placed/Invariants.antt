@@ -5,4 +5,4 @@ use Rattle.coordinates.specs.inner.Marked.{AllPlaced}
 use Rattle.coordinates.proofs.check.bits_placed.Given as goal
 
 abbrev pub invariant-loop-w : goal.invariant-loop-w
-invariant-loop-w l = AllPlaced l.s l.cuts l.state (marked l.bits) l.lo (64 * l.w)
+invariant-loop-w l = AllPlaced l.stored (marked l.bits) l.lo (64 * l.w)

@@ -1,6 +1,6 @@
--- The loop's invariant: the entries before i have places. Assumes nothing.
+-- The loop's invariant: the entries before the index have places. Assumes nothing.
 use Rattle.coordinates.proofs.Checking.{Before}
 use Rattle.coordinates.proofs.check.first_unplaced.Given as goal
 
-abbrev pub invariant-loop-i : goal.invariant-loop-i
-invariant-loop-i l = Before l.s l.cuts l.state l.rows l.i
+abbrev pub invariant-loop-entry : goal.invariant-loop-entry
+invariant-loop-entry l = Before l.stored l.rows l.entry

@@ -1,6 +1,6 @@
 -- The loop's invariant: the nodes of the marked ids of the words before w are written. Assumes nothing.
 use native.Mathlib.Omega.{arith}
-use Rattle.coordinates.proofs.Writing.{wrote_as, none_yet, all_words, word_written, word_passed, word_room, wrote_long}
+use Rattle.coordinates.proofs.Writing.{wrote_as, none_yet, word_written, word_passed, word_room, wrote_long}
 use Rattle.coordinates.proofs.write.write_bits.Goals.{else-word-ne0, then-word-ne0}
 use Rattle.coordinates.proofs.write.write_bits.Goals as goal
 
@@ -32,6 +32,3 @@ loop-w-preserved c =
 
 pub shape_of-nodes : goal.shape_of-nodes
 shape_of-nodes c = wrote_long c.loop-w.invariant.0
-
-pub returns : goal.returns
-returns c = all_words _ _ _ c.loop-w.invariant.0 (omega (arith, c.loop-w-test.false, c.loop-w.invariant.1))

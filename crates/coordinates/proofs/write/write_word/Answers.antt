@@ -1,7 +1,7 @@
 -- The loop's invariant: the nodes of the bits before j that are set are written. Assumes nothing.
 use native.Mathlib.Omega.{arith}
 use mathlib.Core.Path.{sym, ◌∙◌}
-use Rattle.basics.proofs.Written.{none_written, kept_long, all_written}
+use Rattle.basics.proofs.Written.{none_written}
 use Rattle.coordinates.proofs.Writing.{written_as, bit_written, bit_passed, bit_room}
 use Rattle.coordinates.proofs.write.write_word.Goals.{else-is_set, then-is_set}
 use Rattle.coordinates.proofs.write.write_word.Goals as goal
@@ -9,16 +9,10 @@ use Rattle.coordinates.proofs.write.write_word.Goals as goal
 pub loop-j-init : goal.loop-j-init
 loop-j-init c = (none_written _ _ _, omega arith)
 
-pub is_set-requires : goal.is_set-requires
-is_set-requires c = c.loop-j-test.true
-
 pub write_node-to-requires : goal.write_node-to-requires
 write_node-to-requires c =
     let set = sym c.is_set.ensures ∙ c.if-is_set.true in
     record { at_in_bounds = bit_room _ _ _ _ _ c.loop-j.invariant.0 64 c.loop-j-test.true set c.requires.word_in_bounds; id_bound = omega arith }
-
-pub loop-j-smaller : goal.loop-j-smaller
-loop-j-smaller c = omega (arith, c.loop-j-test.true)
 
 pub loop-j-preserved : goal.loop-j-preserved
 loop-j-preserved c =
@@ -30,9 +24,3 @@ loop-j-preserved c =
       ],
       omega (arith, c.loop-j-test.true),
     )
-
-pub shape_of-nodes : goal.shape_of-nodes
-shape_of-nodes c = kept_long c.loop-j.invariant.0
-
-pub returns : goal.returns
-returns c = all_written c.loop-j.invariant.0 64 (omega (arith, c.loop-j-test.false)) c.loop-j.invariant.1

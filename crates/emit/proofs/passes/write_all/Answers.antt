@@ -1,40 +1,33 @@
--- The three passes, one after the other. Assumes nothing.
-use Rattle.emit.proofs.PassLaws.{no_pass, pass_more, pass_ready, three_passed}
+-- The passes along the axes, one after the other. Assumes nothing.
+use Rattle.basics.proofs.Written.{same_ids, none_written, more_written, index_most, all_written}
+use Rattle.emit.proofs.PassLaws.{pass_is, pass_at_most, in_pass, three_passes}
+use Rattle.emit.proofs.Room.{room_left}
+use Rattle.emit.specs.inner.Moving.{moved_label}
+use Rattle.emit.specs.inner.Passes.{pass_most}
 use native.Mathlib.Omega.{arith}
 use Rattle.emit.proofs.passes.write_all.Goals as goal
 
-pub point_count-n-requires : goal.point_count-n-requires
-point_count-n-requires c = c.requires.sized
+pub loop-axis-init : goal.loop-axis-init
+loop-axis-init c = (omega arith, none_written _ _ _)
 
-pub pass_along-along_x-requires : goal.pass_along-along_x-requires
-pass_along-along_x-requires c = c.requires.sized
+pub write_pass-to-requires : goal.write_pass-to-requires
+write_pass-to-requires c =
+    let s = c.args.moved.scan.lattice.sizes in
+    let label = moved_label c.args.moved in
+    let i = c.loop-axis.invariant in
+    let h = c.loop-axis-test.true in
+    record {
+      in_pass = in_pass s c.loop-axis.axis c.along.ensures c.args.moved.scan.lattice.sized;
+      pass_most_bound = omega (arith, index_most i.1 pass_most 3 (λ j l. pass_at_most s label c.args.moved.scan.lattice.sized j) i.0);
+      room = room_left i.1 3 (pass_is s label c.loop-axis.axis c.along.ensures) h (rw (three_passes s label) c.requires.room);
+    }
 
-pub pass_along-along_y-requires : goal.pass_along-along_y-requires
-pass_along-along_y-requires c = c.requires.sized
-
-pub pass_along-along_z-requires : goal.pass_along-along_z-requires
-pass_along-along_z-requires c = c.requires.sized
-
-pub write_pass-x-requires : goal.write_pass-x-requires
-write_pass-x-requires c =
-    let ready = pass_ready (no_pass _ _ _) c.point_count-n.ensures c.pass_along-along_x.ensures (omega arith) c.requires.sized c.requires.samples_len c.requires.room in
-    record { in_pass = ready.0; tables = ready.1.0; pass_most_bound = ready.1.1.0; room = ready.1.1.1 }
-
-pub write_pass-y-requires : goal.write_pass-y-requires
-write_pass-y-requires c =
-    let one = pass_more (no_pass _ _ _) c.point_count-n.ensures c.pass_along-along_x.ensures c.write_pass-x.ensures in
-    let ready = pass_ready one c.point_count-n.ensures c.pass_along-along_y.ensures (omega arith) c.requires.sized c.requires.samples_len c.requires.room in
-    record { in_pass = ready.0; tables = ready.1.0; pass_most_bound = ready.1.1.0; room = ready.1.1.1 }
-
-pub write_pass-requires : goal.write_pass-requires
-write_pass-requires c =
-    let one = pass_more (no_pass _ _ _) c.point_count-n.ensures c.pass_along-along_x.ensures c.write_pass-x.ensures in
-    let two = pass_more one c.point_count-n.ensures c.pass_along-along_y.ensures c.write_pass-y.ensures in
-    let ready = pass_ready two c.point_count-n.ensures c.pass_along-along_z.ensures (omega arith) c.requires.sized c.requires.samples_len c.requires.room in
-    record { in_pass = ready.0; tables = ready.1.0; pass_most_bound = ready.1.1.0; room = ready.1.1.1 }
+pub loop-axis-preserved : goal.loop-axis-preserved
+loop-axis-preserved c =
+    let is = pass_is c.args.moved.scan.lattice.sizes (moved_label c.args.moved) c.loop-axis.axis c.along.ensures in
+    (omega arith, more_written c.loop-axis.invariant.1 is c.write_pass-to.ensures)
 
 pub returns : goal.returns
 returns c =
-    let one = pass_more (no_pass _ _ _) c.point_count-n.ensures c.pass_along-along_x.ensures c.write_pass-x.ensures in
-    let two = pass_more one c.point_count-n.ensures c.pass_along-along_y.ensures c.write_pass-y.ensures in
-    three_passed (pass_more two c.point_count-n.ensures c.pass_along-along_z.ensures c.write_pass.ensures)
+    same_ids (three_passes c.args.moved.scan.lattice.sizes (moved_label c.args.moved))
+    (all_written c.loop-axis.invariant.1 3 (omega arith) (omega arith))

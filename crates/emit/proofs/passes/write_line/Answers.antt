@@ -1,46 +1,36 @@
 -- A line is a run from its first cube on. Assumes nothing.
-use Rattle.basics.proofs.Written.{same_ids}
+use Rattle.basics.proofs.Written.{nothing, same_ids}
 use Rattle.lattice.proofs.Bounds.{corners_small}
-use Rattle.emit.proofs.PassLaws.{line_known, line_is, line_room}
+use Rattle.emit.proofs.PassLaws.{no_line, first_known, line_known, line_is, line_room}
+use Rattle.emit.specs.inner.Moving.{moved_label}
 use native.Mathlib.Omega.{arith}
 use Rattle.emit.proofs.passes.write_line.Goals as goal
 
-pub overflow_add-s : goal.overflow_add-s
-overflow_add-s c = omega (arith, c.requires.in_pass.sized)
-
-pub overflow_add-s-2 : goal.overflow_add-s-2
-overflow_add-s-2 c = omega (arith, c.requires.in_pass.sized)
-
-pub linear-corner-requires : goal.linear-corner-requires
-linear-corner-requires c =
-    omega (arith, c.requires.in_pass.sized, c.requires.in_pass.y_few, c.requires.in_pass.z_few, c.requires.y_lt_my)
-
-pub corner_count-first-requires : goal.corner_count-first-requires
-corner_count-first-requires c = c.requires.in_pass.sized
-
-pub linear-requires : goal.linear-requires
-linear-requires c =
-    omega (arith, c.requires.in_pass.sized, c.requires.in_pass.y_few, c.requires.in_pass.z_few, c.requires.y_lt_my)
+pub returns-then-p-eq0 : goal.returns-then-p-eq0
+returns-then-p-eq0 c = nothing _ _ (no_line c.args.moved.scan.lattice.sizes c.args.p (moved_label c.args.moved) c.args.z c.args.y c.if-p-eq0.true)
 
 pub overflow_add-centre : goal.overflow_add-centre
 overflow_add-centre c =
-    omega (arith, corners_small _ c.requires.in_pass.sized, c.corner_count-first.ensures, c.linear.ensures.upper_bound)
+    omega (arith, corners_small _ c.args.moved.scan.lattice.sized, c.corner_count.ensures, c.linear.ensures.upper_bound)
 
-pub write_run-requires : goal.write_run-requires
-write_run-requires c =
-    let a = c.args in
-    let corner = c.linear-corner.ensures.value in
-    let second = c.linear.ensures.value in record {
-      n_le_most = c.requires.in_pass.all;
-      samples_len = (c.requires.tables.samples_long, c.requires.tables.state_long);
-      known_run = line_known a.p a.z a.y corner c.corner_count-first.ensures second c.requires.in_pass c.requires.y_lt_my.1 c.requires.y_lt_my.0;
-      line_most_bound = c.requires.line_most_bound;
-      room = line_room a.p a.z a.y corner c.corner_count-first.ensures second _ c.requires.room;
-    }
+pub from_corner-first-requires : goal.from_corner-first-requires
+from_corner-first-requires c =
+    first_known c.args.moved.scan.lattice.sizes c.args.p c.args.z c.args.y c.linear-corner.ensures.value c.corner_count.ensures c.linear.ensures.value
+    c.requires.in_pass c.requires.y_lt_my.1 c.requires.y_lt_my.0 (omega (arith, c.if-p-eq0.false))
+
+pub write_run-requires-clause-known_run : goal.write_run-requires-clause-known_run
+write_run-requires-clause-known_run c =
+    line_known c.args.moved.scan.lattice.sizes c.args.p c.args.z c.args.y c.linear-corner.ensures.value c.corner_count.ensures c.linear.ensures.value
+    c.from_corner-first.ensures c.requires.in_pass c.requires.y_lt_my.1 c.requires.y_lt_my.0
+
+pub write_run-requires-clause-room : goal.write_run-requires-clause-room
+write_run-requires-clause-room c =
+    line_room c.args.moved.scan.lattice.sizes c.args.p c.args.z c.args.y c.linear-corner.ensures.value c.corner_count.ensures c.linear.ensures.value
+    (moved_label c.args.moved) c.from_corner-first.ensures c.requires.room
 
 pub returns : goal.returns
 returns c =
-    let a = c.args in
-    let corner = c.linear-corner.ensures.value in
-    let second = c.linear.ensures.value in
-    same_ids (line_is a.p a.z a.y corner c.corner_count-first.ensures second _) c.write_run.ensures
+    same_ids
+    (line_is c.args.moved.scan.lattice.sizes c.args.p c.args.z c.args.y c.linear-corner.ensures.value c.corner_count.ensures c.linear.ensures.value
+    (moved_label c.args.moved) c.from_corner-first.ensures)
+    c.write_run.ensures

@@ -1,7 +1,8 @@
 -- Layers, one after the other. Assumes nothing.
-use Rattle.basics.proofs.Written.{none_written, more_written, index_most, kept_long, all_written}
+use Rattle.basics.proofs.Written.{none_written, more_written, index_most, all_written}
 use Rattle.emit.proofs.PassLaws.{layer_most_law}
 use Rattle.emit.proofs.Room.{room_left}
+use Rattle.emit.specs.inner.Moving.{moved_label}
 use Rattle.emit.specs.inner.Passes.{pass_ids, layer_most}
 use mathlib.Core.Path.{refl}
 use native.Mathlib.Omega.{arith}
@@ -15,21 +16,17 @@ unfolding pass_ids
 write_layer-to-requires c =
     let i = c.loop-z.invariant in
     let h = c.loop-z-test.true in
-    let so_far = index_most i.1 layer_most _ (λ j l. layer_most_law _ _ c.requires.in_pass j l) i.0 in
+    let most = layer_most_law _ c.args.p (moved_label c.args.moved) c.requires.in_pass in
     record {
       in_pass = c.requires.in_pass;
-      tables = c.requires.tables;
       z_lt_mz = h;
-      layer_most_bound = omega (arith, so_far, c.requires.in_pass.z_few, c.requires.pass_most_bound);
+      layer_most_bound = omega (arith, index_most i.1 layer_most _ most i.0, c.requires.in_pass.z_few, c.requires.pass_most_bound);
       room = room_left i.1 _ refl h c.requires.room;
     }
 
 pub loop-z-preserved : goal.loop-z-preserved
 loop-z-preserved c =
     (omega arith, more_written c.loop-z.invariant.1 refl c.write_layer-to.ensures)
-
-pub shape_of-rows : goal.shape_of-rows
-shape_of-rows c = kept_long c.loop-z.invariant.1
 
 pub returns : goal.returns
 unfolding pass_ids

@@ -1,6 +1,5 @@
 -- Below the band, above it, or in it. Assumes nothing.
 use Rattle.labelling.proofs.Labels.{compared, mark_beneath, mark_above, mark_within}
-use borrow.Author.Rules.{rules}
 use Rattle.labelling.proofs.codes.mark_of.Goals as goal
 
 pub returns-then-x-low : goal.returns-then-x-low

@@ -3,7 +3,6 @@ use mathlib.Core.Path.{sym, ap, ◌∙◌}
 use mathlib.Core.Bool.{Bool}
 use Rattle.labelling.specs.inner.Labels.{has_label}
 use Rattle.labelling.proofs.Labels.{plus_handed, minus_handed}
-use borrow.Author.Rules.{rules}
 use Rattle.labelling.proofs.label.has_label.Goals as goal
 
 pub returns-then-plus : goal.returns-then-plus

@@ -1,6 +1,5 @@
 -- A sample is below the band where its label is minus: both are cast to one type. Assumes nothing.
 use Rattle.labelling.proofs.Labels.{sample_fits, minus_fits, minus_test}
-use borrow.Author.Rules.{rules}
 use Rattle.labelling.proofs.label.is_minus.Goals as goal
 
 pub overflow_cast-result : goal.overflow_cast-result

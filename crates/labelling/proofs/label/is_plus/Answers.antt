@@ -1,6 +1,5 @@
 -- A sample is above the band where its label is plus: both are cast to one type. Assumes nothing.
 use Rattle.labelling.proofs.Labels.{sample_fits, plus_test}
-use borrow.Author.Rules.{rules}
 use Rattle.labelling.proofs.label.is_plus.Goals as goal
 
 pub overflow_cast-result-2 : goal.overflow_cast-result-2

@@ -1,7 +1,6 @@
 -- By the first sample's label. Assumes nothing.
 use mathlib.Core.Path.{sym, ◌∙◌}
 use Rattle.labelling.proofs.Labels.{plus_handed, minus_handed, opposed_minus, opposed_plus, opposed_none}
-use borrow.Author.Rules.{rules}
 use Rattle.labelling.proofs.label.opposite.Goals as goal
 
 pub returns-then-is_minus : goal.returns-then-is_minus

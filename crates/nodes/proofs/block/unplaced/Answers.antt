@@ -1,14 +1,11 @@
--- The first entry whose id has no place, and the place call's number of it. Assumes nothing.
-use native.Mathlib.Omega.{arith}
-use Rattle.nodes.proofs.Answering.{stored, entry_refused}
+-- The first entry that is refused is there. Assumes nothing.
+use Rattle.nodes.proofs.Answering.{some_refused, refused_entry, unplaced_said}
 use Rattle.nodes.proofs.block.unplaced.Goals as goal
 
-pub first_unplaced-i-requires : goal.first_unplaced-i-requires
-first_unplaced-i-requires c = stored c.requires.whole
-
-pub overflow_cast-rows : goal.overflow_cast-rows
-overflow_cast-rows c = omega (arith, c.type_inv.rows c.first_unplaced-i.result)
+pub unwrap-requires : goal.unwrap-requires
+unwrap-requires c = some_refused c.args.stored c.args.rows.now _ c.first_unplaced.ensures c.requires
 
 pub returns : goal.returns
 returns c =
-    entry_refused c.requires.whole c.first_unplaced-i.ensures c.locate_id-p.ensures c.answer.ensures
+    λ nodes q. unplaced_said c.args.stored c.args.rows.now q nodes c.unwrap.result
+    (refused_entry c.args.stored c.args.rows.now c.first_unplaced.ensures c.unwrap.ensures)

@@ -1,81 +1,39 @@
--- The loop's invariant: the bytes of the points before the one of index x are mended. Assumes nothing.
+-- The loop's invariant: the bytes of the points before the one of index `from` are mended. Assumes nothing.
+use Prim.Native.Nat.{◌+◌, ◌*◌}
 use native.Mathlib.Omega.{arith}
-use mathlib.Core.Path.{refl, ◌∙◌}
-use Rattle.moving.specs.Label.{labels}
+use mathlib.Core.Path.{refl}
+use Rattle.labelling.specs.inner.Scans.{label_in}
 use Rattle.checks.proofs.Walk.{room}
+use Rattle.patch.specs.inner.Mends.{Mends, due_in}
 use Rattle.patch.proofs.Mends.{spelt, joined, few}
-use Rattle.patch.proofs.Line.{still_tabled, fine_to}
+use Rattle.patch.proofs.Line.{fine_to}
 use Rattle.patch.proofs.table.mend_points.Goals as goal
 
-pub line_length-m-requires : goal.line_length-m-requires
-line_length-m-requires c = c.requires.tabled.sized
-
-pub next_fault-x-requires : goal.next_fault-x-requires
-next_fault-x-requires c =
-    record {
-      tabled = c.requires.tabled;
-      line = c.requires.line;
-      from_bound = omega arith;
-    }
-
-pub loop-x-init : goal.loop-x-init
-loop-x-init c =
-    let e = c.line_length-m.ensures.value in
-    let a = c.args in (
-      room c.requires.tabled.sized c.requires.line e,
-      omega (arith, c.next_fault-x.ensures.high),
-      spelt (omega arith) refl (fine_to a.s (labels a.band a.samples.now) a.samples.now a.cuts.now a.q 0 _ c.next_fault-x.ensures),
-    )
-
-pub mend_point-r-requires : goal.mend_point-r-requires
-mend_point-r-requires c =
-    let e = c.line_length-m.ensures.value in
-    let l = c.loop-x-test.true in
-    record {
-      tabled = still_tabled c.requires.tabled c.loop-x.invariant.2.long;
-      line = c.requires.line;
-      x_bound = omega arith;
-    }
-
-pub overflow_add-filled : goal.overflow_add-filled
-overflow_add-filled c =
-    omega (arith, few c.mend_point-r.ensures, few c.loop-x.invariant.2)
-
-pub overflow_add-cleared : goal.overflow_add-cleared
-overflow_add-cleared c =
-    omega (arith, few c.mend_point-r.ensures, few c.loop-x.invariant.2)
-
-pub next_fault-x-requires-in-loop-x : goal.next_fault-x-requires-in-loop-x
-next_fault-x-requires-in-loop-x c =
-    let e = c.line_length-m.ensures.value in
-    let l = c.loop-x-test.true in
-    record {
-      tabled = still_tabled c.requires.tabled (c.mend_point-r.ensures.long ∙ c.loop-x.invariant.2.long);
-      line = c.requires.line;
-      from_bound = omega arith;
-    }
-
-pub loop-x-smaller : goal.loop-x-smaller
-loop-x-smaller c =
-    let l = c.loop-x-test.true in
-    omega (arith, c.next_fault-x-in-loop-x.ensures.low)
+pub add_assign-requires : goal.add_assign-requires
+add_assign-requires c =
+    let r = room c.args.scan.lattice.sized c.requires.line refl in
+    let i = c.loop-x.invariant in
+    let f = c.in-Some.ensures in
+    let a = few i.1 in
+    let b = few c.mend_point.ensures in
+    (omega (arith, r.fits, r.small, f.0), omega (arith, r.fits, r.small, f.0))
 
 pub loop-x-preserved : goal.loop-x-preserved
 loop-x-preserved c =
-    let e = c.line_length-m.ensures.value in
-    let a = c.args in
-    let rest = fine_to a.s (labels a.band a.samples.now) a.samples.now _ a.q _ _ c.next_fault-x-in-loop-x.ensures in
-    let here = joined c.loop-x.invariant.2 c.mend_point-r.ensures (omega arith) (omega arith) refl refl in (
-      c.loop-x.invariant.0,
-      omega (arith, c.next_fault-x-in-loop-x.ensures.high),
-      joined here (spelt (omega arith) refl rest) (omega arith) (omega (arith, c.next_fault-x-in-loop-x.ensures.low)) (omega arith) (omega arith),
+    let i = c.loop-x.invariant in
+    let f = c.in-Some.ensures in
+    let a = c.args.scan in
+    let fine = fine_to a.lattice.sizes (label_in a) a.samples.now _ c.args.q _ _ f.1 in
+    let before : Mends (due_in a) (7 * c.args.q.own) (7 * (c.args.q.own + c.in-Some.x)) c.args.cuts.now c.loop-x.cuts c.loop-x.total
+    = joined i.1 fine (omega arith) (omega (arith, f.1.low)) (omega arith) (omega arith) in (
+      omega (arith, f.0),
+      spelt refl (omega arith) (joined before c.mend_point.ensures (omega arith) (omega arith)
+          c.add_assign.ensures.after.0 c.add_assign.ensures.after.1),
     )
-
-pub shape_of-cuts : goal.shape_of-cuts
-shape_of-cuts c = c.loop-x.invariant.2.long
 
 pub returns : goal.returns
 returns c =
-    let e = c.line_length-m.ensures.value in
-    let l = c.loop-x-test.false in
-    spelt refl (omega arith) c.loop-x.invariant.2
+    let i = c.loop-x.invariant in
+    let a = c.args.scan in
+    let fine = fine_to a.lattice.sizes (label_in a) a.samples.now _ c.args.q _ _ c.in_default.ensures in
+    joined i.1 fine (omega arith) (omega (arith, i.0)) (omega arith) (omega arith)

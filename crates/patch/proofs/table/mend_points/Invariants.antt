@@ -1,15 +1,14 @@
--- The loop's invariant: the bytes of the points before the one of index x are mended. Assumes nothing.
+-- The loop's invariant: the bytes of the points before the one of index `from` are mended. Assumes nothing.
 use Prim.Native.Nat.{◌+◌, ◌*◌, ◌-◌, ◌≤◌}
-use Rattle.moving.specs.Label.{labels}
-use Rattle.checks.proofs.Walk.{Room}
-use Rattle.patch.specs.inner.Mends.{Mends, table_due}
-use Rattle.patch.proofs.Mends.{counts}
+use Rattle.lattice.specs.Axis.{along_x}
+use Rattle.lattice.specs.Counts.{grid}
+use Rattle.patch.specs.inner.Mends.{Mends, due_in}
 use Rattle.patch.proofs.table.mend_points.Given as goal
 
 abbrev pub invariant-loop-x : goal.invariant-loop-x
 invariant-loop-x l =
-    Room l.s l.q.own l.m × (l.x ≤ l.m)
-    × Mends (table_due l.s (labels l.band l.samples) l.samples) (7 * l.q.own) (7 * (l.q.own + l.x)) l.initial.cuts l.cuts (counts l.filled l.cleared)
+    (l.from ≤ grid l.scan.lattice.sizes l.q.kind along_x)
+    × Mends (due_in l.scan) (7 * l.q.own) (7 * (l.q.own + l.from)) l.initial.cuts l.cuts l.total
 
 abbrev pub decreases-loop-x : goal.decreases-loop-x
-decreases-loop-x l = l.m - l.x
+decreases-loop-x l = grid l.scan.lattice.sizes l.q.kind along_x - l.from

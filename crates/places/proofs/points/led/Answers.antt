@@ -7,48 +7,29 @@ use Rattle.lattice.specs.Axis.{along_x, along_y, along_z}
 use Rattle.lattice.specs.Direction.{step}
 use Rattle.lattice.specs.inner.Site.{shift_of}
 use Rattle.triple.specs.inner.Places.{place_at, along}
-use Rattle.triple.proofs.Box.{held, place_is, box_of}
+use Rattle.triple.proofs.Box.{place_is}
 use Rattle.places.proofs.Standing.{stepped_is}
 use Rattle.places.proofs.points.led.Goals as goal
 
-pub stepped-x-requires : goal.stepped-x-requires
-stepped-x-requires c =
-    record {
-      within = rw (held c.requires.in_box.in_x tt).eq c.requires.in_box.in_x;
-      t_bound = omega (arith, c.requires.t_bound, shift_small c.args.code c.requires.code _ c.shift-w.ensures);
-    }
+pub stepped-requires-clause-t_bound : goal.stepped-requires-clause-t_bound
+stepped-requires-clause-t_bound c = omega (arith, shift_small c.args.code.code c.args.code.names_edge _ c.shift-w.ensures)
 
-pub stepped-y-requires : goal.stepped-y-requires
-stepped-y-requires c =
-    record {
-      within = rw (held c.requires.in_box.in_y tt).eq c.requires.in_box.in_y;
-      t_bound = omega (arith, c.requires.t_bound, shift_small c.args.code c.requires.code _ c.shift-w.ensures);
-    }
+pub stepped-requires-2-clause-t_bound : goal.stepped-requires-2-clause-t_bound
+stepped-requires-2-clause-t_bound c = omega (arith, shift_small c.args.code.code c.args.code.names_edge _ c.shift-w.ensures)
 
-pub stepped-z-requires : goal.stepped-z-requires
-stepped-z-requires c =
-    record {
-      within = rw (held c.requires.in_box.in_z tt).eq c.requires.in_box.in_z;
-      t_bound = omega (arith, c.requires.t_bound, shift_small c.args.code c.requires.code _ c.shift-w.ensures);
-    }
+pub stepped-requires-3-clause-t_bound : goal.stepped-requires-3-clause-t_bound
+stepped-requires-3-clause-t_bound c = omega (arith, shift_small c.args.code.code c.args.code.names_edge _ c.shift-w.ensures)
 
-pub returns : goal.returns
+pub returns-clause-result_value : goal.returns-clause-result_value
 unfolding along shift_of
-returns c =
-    let way = step c.args.code in
-    let rx = c.stepped-x in
-    let ry = c.stepped-y in
-    let rz = c.stepped-z in
-    let x =
-    stepped_is (way along_x) c.args.t (ap (λ (t : Shift). t.ux) c.shift-w.ensures) (ap (λ (t : Shift). t.dx) c.shift-w.ensures) c.requires.in_box.in_x
-    rx.type_inv (rx.ensures.value, rx.ensures.within_2) in
-    let y =
-    stepped_is (way along_y) c.args.t (ap (λ (t : Shift). t.uy) c.shift-w.ensures) (ap (λ (t : Shift). t.dy) c.shift-w.ensures) c.requires.in_box.in_y
-    ry.type_inv (ry.ensures.value, ry.ensures.within_2) in
-    let z =
-    stepped_is (way along_z) c.args.t (ap (λ (t : Shift). t.uz) c.shift-w.ensures) (ap (λ (t : Shift). t.dz) c.shift-w.ensures) c.requires.in_box.in_z
-    rz.type_inv (rz.ensures.value, rz.ensures.within_2) in
-    record {
-      result_value = place_is (along (place_at c.args.from) way c.args.t) x.eq y.eq z.eq;
-      in_box_2 = box_of x y z;
-    }
+returns-clause-result_value c =
+    let way = step c.args.code.code in
+    let box = c.requires.in_box in
+    let shift = c.shift-w.ensures in
+    let x = stepped_is (way along_x) c.args.t (ap (λ (t : Shift). t.ux) shift) (ap (λ (t : Shift). t.dx) shift) box.in_x
+    c.stepped.type_inv (c.stepped.ensures.value, c.stepped.ensures.within_2) in
+    let y = stepped_is (way along_y) c.args.t (ap (λ (t : Shift). t.uy) shift) (ap (λ (t : Shift). t.dy) shift) box.in_y
+    c.stepped-2.type_inv (c.stepped-2.ensures.value, c.stepped-2.ensures.within_2) in
+    let z = stepped_is (way along_z) c.args.t (ap (λ (t : Shift). t.uz) shift) (ap (λ (t : Shift). t.dz) shift) box.in_z
+    c.stepped-3.type_inv (c.stepped-3.ensures.value, c.stepped-3.ensures.within_2) in
+    place_is (along (place_at c.args.from) way c.args.t) x.eq y.eq z.eq

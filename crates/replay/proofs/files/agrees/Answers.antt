@@ -1,38 +1,31 @@
 -- The head, then the file. Assumes nothing.
-use Prim.Native.Nat.{ℕ}
-use mathlib.Core.Path.{◌≡◌, sym, ◌∙◌}
-use mathlib.Core.Bool.{Bool, true}
+use mathlib.Core.Path.{sym, refl}
 use lib.Seq.{length-take-le}
-use Rattle.replay.specs.declared.Filed.{Filed}
-use Rattle.replay.specs.program.Files.{filed_fits}
-use Rattle.replay.proofs.Reading.{Fitting, it_fits, no_file, file_decides}
+use Rattle.replay.proofs.Reading.{it_fits, no_file, file_decides}
 use Rattle.replay.proofs.files.agrees.Goals as goal
 
--- the record fits
-checked : {b : Bool} (f : Filed) (body samples cuts : ℕ) → b ≡ filed_fits f body samples cuts → b ≡ true → Fitting f body samples cuts
-checked f body samples cuts e d = it_fits f body samples cuts (sym e ∙ d)
-
-pub returns-then-not-is_fitting : goal.returns-then-not-is_fitting
-returns-then-not-is_fitting c = no_file _ _ _ _ _ c.filed_of-f.ensures.value c.is_fitting.ensures (c.if-not-is_fitting.true)
-
 pub slice_bounds-is_agreed-end : goal.slice_bounds-is_agreed-end
-slice_bounds-is_agreed-end c = (checked _ _ _ _ c.is_fitting.ensures c.if-not-is_fitting.false).sample_room
+slice_bounds-is_agreed-end c = (it_fits _ _ _ _ c.in-Some.ensures.1).sample_room
 
-pub slice_bounds-is_agreed-end-2 : goal.slice_bounds-is_agreed-end-2
-slice_bounds-is_agreed-end-2 c = sym (length-take-le _ _ (checked _ _ _ _ c.is_fitting.ensures c.if-not-is_fitting.false).sample_room)
+pub slice_bounds-is_agreed-end-in-Some : goal.slice_bounds-is_agreed-end-in-Some
+slice_bounds-is_agreed-end-in-Some c = sym (length-take-le _ _ (it_fits _ _ _ _ c.in-Some.ensures.1).sample_room)
 
-pub slice_bounds-is_agreed-end-3 : goal.slice_bounds-is_agreed-end-3
-slice_bounds-is_agreed-end-3 c = (checked _ _ _ _ c.is_fitting.ensures c.if-not-is_fitting.false).cut_room
+pub slice_bounds-is_agreed-end-in-Some-2 : goal.slice_bounds-is_agreed-end-in-Some-2
+slice_bounds-is_agreed-end-in-Some-2 c = (it_fits _ _ _ _ c.in-Some.ensures.1).cut_room
 
-pub slice_bounds-is_agreed-end-4 : goal.slice_bounds-is_agreed-end-4
-slice_bounds-is_agreed-end-4 c = sym (length-take-le _ _ (checked _ _ _ _ c.is_fitting.ensures c.if-not-is_fitting.false).cut_room)
+pub slice_bounds-is_agreed-end-in-Some-3 : goal.slice_bounds-is_agreed-end-in-Some-3
+slice_bounds-is_agreed-end-in-Some-3 c = sym (length-take-le _ _ (it_fits _ _ _ _ c.in-Some.ensures.1).cut_room)
+
+pub invariant_of-file : goal.invariant_of-file
+invariant_of-file c = record { whole = (it_fits _ _ _ _ c.in-Some.ensures.1).whole }
 
 pub is_agreed-requires : goal.is_agreed-requires
 is_agreed-requires c =
-    let w = checked _ _ _ _ c.is_fitting.ensures c.if-not-is_fitting.false in
-    (w.whole, length-take-le _ _ w.sample_room, length-take-le _ _ w.cut_room)
+    let w = it_fits _ _ _ _ c.in-Some.ensures.1 in
+    (length-take-le _ _ w.sample_room, length-take-le _ _ w.cut_room)
 
-pub returns : goal.returns
-returns c =
-    file_decides _ _ _ _ _ c.filed_of-f.ensures.value c.is_fitting.ensures
-    (c.if-not-is_fitting.false) c.is_agreed.ensures
+pub returns-in-None : goal.returns-in-None
+returns-in-None c = no_file _ _ _ _ _ refl refl c.in-None.ensures
+
+pub returns-in-Some : goal.returns-in-Some
+returns-in-Some c = file_decides _ _ _ _ _ c.in-Some.ensures.0 refl c.in-Some.ensures.1 c.is_agreed.ensures

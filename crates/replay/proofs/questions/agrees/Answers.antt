@@ -1,11 +1,10 @@
 -- The head, then the questions. Assumes nothing.
+use mathlib.Core.Path.{refl}
 use Rattle.replay.proofs.Asking.{no_questions, questions_decide}
 use Rattle.replay.proofs.questions.agrees.Goals as goal
 
-pub returns-then-body-first : goal.returns-then-body-first
-returns-then-body-first c = no_questions _ _ _ c.asked_of-a.ensures.value c.if-body-first.true
+pub returns-in-None : goal.returns-in-None
+returns-in-None c = no_questions _ _ _ refl c.in-None.ensures
 
-pub returns : goal.returns
-returns c =
-    questions_decide _ _ _ c.asked_of-a.ensures.value c.if-body-first.false
-    c.are_answered.ensures
+pub returns-in-Some : goal.returns-in-Some
+returns-in-Some c = questions_decide _ _ _ c.in-Some.ensures.0 c.in-Some.ensures.1 c.are_answered.ensures

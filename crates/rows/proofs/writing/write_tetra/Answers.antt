@@ -1,44 +1,25 @@
--- Nothing without a plus; else the rows of the pattern. Assumes nothing.
-use Rattle.rows.proofs.StencilLaws.{none_for, in_order, ready_for, written_for}
-use Rattle.rows.specs.inner.Picks.{sum}
+-- The line of the table that the labels choose. Assumes nothing.
+use Prim.Native.Nat.{ℕ}
 use native.Mathlib.Omega.{arith}
+use mathlib.Core.Path.{ap, ◌∙◌}
+use Rattle.stencil.specs.Stencil.{stencil_of}
+use Rattle.rows.specs.inner.Stencils.{row_count, tetra_ids}
+use Rattle.rows.proofs.StencilLaws.{none_for, ordered_among, tetra_long}
 use Rattle.rows.proofs.writing.write_tetra.Goals as goal
 
-pub overflow_add-pattern : goal.overflow_add-pattern
-overflow_add-pattern c = omega (arith, c.requires.small)
+pub write_stencil-requires-clause-in_order : goal.write_stencil-requires-clause-in_order
+write_stencil-requires-clause-in_order c = rw c.order-order.ensures (ordered_among c.args.labels)
 
-pub overflow_add-pattern-2 : goal.overflow_add-pattern-2
-overflow_add-pattern-2 c = omega (arith, c.requires.small)
-
-pub overflow_add-pattern-3 : goal.overflow_add-pattern-3
-overflow_add-pattern-3 c = omega (arith, c.requires.small)
-
-pub returns-then-count-eq0 : goal.returns-then-count-eq0
-unfolding sum
-returns-then-count-eq0 c =
-    none_for c.args.n c.args.wound c.args.t c.args.w _ c.row_count-count.ensures.value c.if-count-eq0.true _ _
-
-pub rows_for-r-requires : goal.rows_for-r-requires
-rows_for-r-requires c =
-    in_order c.args.n c.args.t c.args.w _ c.requires.known_tetra c.order-o.ensures
-
-pub write-requires : goal.write-requires
-unfolding sum
-write-requires c =
-    let a = c.args in
-    ready_for a.n a.wound a.t a.w _ _ _ _ c.order-o.ensures c.is_even-even.ensures
-    c.agrees-keep.ensures c.rows_for-r.ensures c.requires.n_le_most c.requires.known_tetra _ _ c.requires.w_in_bounds
-
-pub overflow_mul-result : goal.overflow_mul-result
-overflow_mul-result c = omega (arith, c.row_count-count.ensures.upper_bound)
-
-pub overflow_add-result : goal.overflow_add-result
-overflow_add-result c =
-    omega (arith, c.row_count-count.ensures.upper_bound, c.requires.tetra_most_bound)
+pub write_stencil-requires-clause-room : goal.write_stencil-requires-clause-room
+write_stencil-requires-clause-room c =
+    rw c.pattern-pattern.ensures (omega (arith, tetra_long c.args.wound c.args.t c.args.labels, c.requires.w_in_bounds))
 
 pub returns : goal.returns
-unfolding sum
+unfolding tetra_ids
 returns c =
-    let a = c.args in
-    written_for a.n a.wound a.t a.w _ _ _ _ c.order-o.ensures c.is_even-even.ensures
-    c.agrees-keep.ensures c.rows_for-r.ensures _ c.row_count-count.ensures.value _ _ _ c.write.ensures
+    rw (c.order-order.ensures, c.is_even.ensures, c.pattern-pattern.ensures) at c.write_stencil.ensures
+
+pub returns-then-row_count-eq0 : goal.returns-then-row_count-eq0
+returns-then-row_count-eq0 c =
+    let none = c.row_count.ensures.value ∙ ap (λ (k : ℕ). row_count (stencil_of k)) c.pattern-pattern.ensures in
+    none_for _ _ _ _ none c.if-row_count-eq0.true _ _

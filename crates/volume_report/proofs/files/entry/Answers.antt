@@ -1,49 +1,52 @@
 -- A file that is refused, a block that is refused, or its volumes. Assumes nothing.
-use Rattle.volume_report.proofs.Opening.{opens, opened_sized, opened_samples, opened_cuts, filled_state, filled_few, filled_ready}
-use Rattle.volume_report.proofs.Entries.{refusal_small, file_refused, block_refused, block_measured}
+use native.Mathlib.Omega.{arith}
+use mathlib.Core.Path.{refl}
+use Rattle.fill_file.proofs.Outcome.{refuses}
+use Rattle.volume_report.proofs.Opening.{opens}
+use Rattle.volume_report.proofs.Entries.{unread, refused_small, loaded_fits, refused_entry, counts_state, counts_few, counts_ready, counts_entry}
 use Rattle.volume_report.proofs.files.entry.Goals as goal
 
-pub returns-then-r-ne0 : goal.returns-then-r-ne0
-returns-then-r-ne0 c =
-    record {
-      value = file_refused (opens c.read-r.ensures.value c.read-r.ensures.samples_after c.read-r.ensures.cuts_after) c.if-r-ne0.true c.refused.ensures;
-      small = refusal_small _ _ _ c.refused.ensures;
-    }
+pub invariant_of-result : goal.invariant_of-result
+invariant_of-result c = let h = refuses c.in-Err.refusal in record { refuses = omega (arith, c.number.ensures) }
 
-pub fill_read-f-requires : goal.fill_read-f-requires
-fill_read-f-requires c =
-    let w = opens c.read-r.ensures.value c.read-r.ensures.samples_after c.read-r.ensures.cuts_after in
-    let z = c.if-r-ne0.false in
-    record {
-      sized = opened_sized w z;
-      r_in_bounds = (opened_samples w z, opened_cuts w z);
-    }
+pub fill_read-requires : goal.fill_read-requires
+fill_read-requires c =
+    let e = c.in-Ok.ensures in
+    loaded_fits c.in-Ok.block (opens e.value e.samples_after e.cuts_after)
 
-pub returns-then-f-ne0 : goal.returns-then-f-ne0
-returns-then-f-ne0 c =
-    let w = opens c.read-r.ensures.value c.read-r.ensures.samples_after c.read-r.ensures.cuts_after in
-    record {
-      value = block_refused w c.if-r-ne0.false c.fill_read-f.ensures.value c.fill_read-f.ensures.state_after c.fill_read-f.ensures.rows_after c.if-f-ne0.true c.refused-then-f-ne0.ensures;
-      small = refusal_small _ _ _ c.refused-then-f-ne0.ensures;
-    }
+pub returns-in-Err-clause-value : goal.returns-in-Err-clause-value
+returns-in-Err-clause-value c =
+    let e = c.in-Err.ensures in
+    unread _ _ (opens e.value e.samples_after e.cuts_after) c.number.ensures refl
+
+pub returns-in-Err-clause-small : goal.returns-in-Err-clause-small
+returns-in-Err-clause-small c = refused_small _ _
+
+pub returns-in-Err-fill_read-clause-value : goal.returns-in-Err-fill_read-clause-value
+returns-in-Err-fill_read-clause-value c =
+    let e = c.in-Ok.ensures in
+    let f = c.in-Err-fill_read.ensures in
+    refused_entry c.in-Ok.block (opens e.value e.samples_after e.cuts_after) f.state_after f.rows_after _ f.value
+
+pub returns-in-Err-fill_read-clause-small : goal.returns-in-Err-fill_read-clause-small
+returns-in-Err-fill_read-clause-small c = refused_small _ _
 
 pub measure-requires : goal.measure-requires
 measure-requires c =
-    let w = opens c.read-r.ensures.value c.read-r.ensures.samples_after c.read-r.ensures.cuts_after in
-    let z = c.if-r-ne0.false in
-    let f = c.if-f-ne0.false in record {
-      sized = opened_sized w z;
-      r_in_bounds = (filled_state w z c.fill_read-f.ensures.value c.fill_read-f.ensures.state_after c.fill_read-f.ensures.rows_after f, opened_cuts w z);
-      emitted_le_rows_most = filled_few w z c.fill_read-f.ensures.value c.fill_read-f.ensures.state_after c.fill_read-f.ensures.rows_after f;
-      measured = λ bytes. filled_ready w z c.fill_read-f.ensures.value c.fill_read-f.ensures.state_after c.fill_read-f.ensures.rows_after f bytes;
+    let e = c.in-Ok.ensures in
+    let f = c.in-Ok-fill_read.ensures in
+    let w = opens e.value e.samples_after e.cuts_after in
+    let o = c.in-Ok.block in
+    let counts = c.in-Ok-fill_read.filled in
+    record {
+      in_bounds = (counts_state o w f.state_after f.rows_after counts f.value, (loaded_fits o w).1);
+      emitted_le_rows_most = counts_few o w f.state_after f.rows_after counts f.value;
+      measured = λ bytes. counts_ready o w f.state_after f.rows_after counts f.value bytes;
     }
 
-pub returns : goal.returns
-returns c =
-    let w = opens c.read-r.ensures.value c.read-r.ensures.samples_after c.read-r.ensures.cuts_after in
-    let z = c.if-r-ne0.false in
-    let f = c.if-f-ne0.false in
-    record {
-      value = block_measured w z c.fill_read-f.ensures.value c.fill_read-f.ensures.state_after c.fill_read-f.ensures.rows_after f c.measure.ensures.value;
-      small = c.measure.ensures.small;
-    }
+pub returns-in-Ok-fill_read-clause-value : goal.returns-in-Ok-fill_read-clause-value
+returns-in-Ok-fill_read-clause-value c =
+    let e = c.in-Ok.ensures in
+    let f = c.in-Ok-fill_read.ensures in
+    let w = opens e.value e.samples_after e.cuts_after in
+    counts_entry c.in-Ok.block w f.state_after f.rows_after c.in-Ok-fill_read.filled f.value _ c.measure.ensures.value

@@ -8,25 +8,24 @@ use Rattle.warp.proofs.moves.is_live_by.Goals as goal
 
 pub is_live-requires : goal.is_live-requires
 is_live-requires c =
-    let a = c.args in
-    let long = c.requires.state_len in
-    let here = site_lt a.s a.q c.requires.sized c.requires.sited in
-    let leads = site_near a.s a.q c.requires.sized c.requires.sited a.code ∙ sym c.neighbour-far.ensures ∙ c.in-At.is in
-    let there = neighbour_lt a.s a.q.own a.code c.in-At.e here c.requires.code leads in
-    (omega arith, omega arith)
+    let l = c.args.lattice in
+    let q = c.args.q in
+    let code = c.args.code in
+    let here = site_lt l.sizes q l.sized c.requires.sited in
+    let leads = site_near l.sizes q l.sized c.requires.sited code.code ∙ sym c.neighbour.ensures ∙ c.in-Some.is in
+    let there = neighbour_lt l.sizes q.own code.code c.in-Some.far here code.names_edge leads in
+    (omega (arith, c.requires.state_len), omega (arith, c.requires.state_len))
 
-pub returns-in-Nothing : goal.returns-in-Nothing
+pub returns-in-None : goal.returns-in-None
 unfolding open_along
-returns-in-Nothing c =
-    let a = c.args in
-    let g = c.requires.sited in
-    let leads = site_near a.s a.q c.requires.sized g a.code ∙ sym c.neighbour-far.ensures ∙ c.in-Nothing.is in
+returns-in-None c =
+    let l = c.args.lattice in
+    let leads = site_near l.sizes c.args.q l.sized c.requires.sited c.args.code.code ∙ sym c.neighbour.ensures ∙ c.in-None.is in
     sym (ap (open_along _ _) leads)
 
-pub returns-in-At : goal.returns-in-At
+pub returns-in-Some : goal.returns-in-Some
 unfolding open_along
-returns-in-At c =
-    let a = c.args in
-    let g = c.requires.sited in
-    let leads = site_near a.s a.q c.requires.sized g a.code ∙ sym c.neighbour-far.ensures ∙ c.in-At.is in
+returns-in-Some c =
+    let l = c.args.lattice in
+    let leads = site_near l.sizes c.args.q l.sized c.requires.sited c.args.code.code ∙ sym c.neighbour.ensures ∙ c.in-Some.is in
     c.is_live.ensures ∙ sym (ap (open_along _ _) leads)

@@ -1,11 +1,11 @@
--- The loop's invariant: the points before p have had their turns, and q starts the line at p. Assumes nothing.
-use Prim.Native.Nat.{◌-◌}
-use Rattle.moving.specs.Block.{block_of, reading_of}
-use Rattle.warp.proofs.Turning.{Warped}
+-- The points before the next line have had their turns. Assumes nothing.
+use Prim.Native.Nat.{ℕ}
+use Rattle.moving.specs.Block.{reading_of}
+use Rattle.labelling.specs.inner.Scans.{block_in}
+use Rattle.lines.specs.inner.Walk.{Walks}
+use Rattle.warp.proofs.Turning.{Passed}
 use Rattle.warp.proofs.moves.warp.Given as goal
 
-abbrev pub invariant-loop-p : goal.invariant-loop-p
-invariant-loop-p l = Warped (reading_of l.band (block_of l.s l.samples l.cuts)) l.n l.state l.q l.moved l.p
-
-abbrev pub decreases-loop-p : goal.decreases-loop-p
-decreases-loop-p l = l.n - l.p
+abbrev pub invariant-loop-q : goal.invariant-loop-q
+invariant-loop-q l =
+    (p : ℕ) × Walks l.scan.lattice.sizes p l.q-iterator × Passed (reading_of l.scan.band (block_in l.scan l.cuts)) p l.state l.moved

@@ -1,0 +1,21 @@
+// What the bench program answers for a file: the counts of its block, or why it is refused.
+ghost use Rattle.std.specs.Prelude.{◌<◌};
+
+// How many points and lattice tetrahedra a block has, how many points moved, and how many rows were
+// written.
+#[derive(Clone, Copy)]
+pub struct Counts {
+    pub points: u64,
+    pub lattice: u64,
+    pub moved: u64,
+    pub emitted: u64,
+}
+
+// The number of document 01 with which a file or its block is refused, and the place. (A number, since
+// the call of filling answers one to C.)
+#[derive(Clone, Copy)]
+pub struct Refused {
+    pub number: u32,
+    pub place: u64,
+    ghost refuses: { 0 < number },
+}

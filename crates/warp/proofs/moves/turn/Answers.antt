@@ -1,0 +1,33 @@
+-- The nearest cut by the bytes is live, or there is none; or the search decides. Assumes nothing.
+use mathlib.Core.Path.{refl, sym, ap, ◌∙◌}
+use mathlib.Core.Logic.{inl, inr}
+use Rattle.moving.specs.State.{is_move}
+use Rattle.moving.specs.Block.{reading_of}
+use Rattle.moving.specs.Moving.{choice}
+use Rattle.labelling.specs.inner.Scans.{block_in}
+use Rattle.warp.specs.inner.Turns.{chosen}
+use Rattle.warp.proofs.Turning.{turn_long, turn_below, turn_reached}
+use Rattle.warp.proofs.Quiet.{guess_at}
+use Rattle.warp.proofs.moves.turn.Goals as goal
+
+pub returns-in_err-code : goal.returns-in_err-code
+unfolding choice is_move
+returns-in_err-code c =
+    let m = reading_of c.args.scan.band (block_in c.args.scan c.args.cuts.now) in
+    let t = c.requires in
+    let z = c.args.scan.lattice.sized in
+    ap chosen c.from_residual.ensures
+    ∙ guess_at m (turn_reached m t z) _ _ refl refl (turn_below m t z) z t.sited c.offsets-at.ensures c.in_err-code.ensures (inl refl)
+
+pub is_live_by-requires-clause-state_len : goal.is_live_by-requires-clause-state_len
+is_live_by-requires-clause-state_len c = turn_long _ c.requires
+
+pub returns-then-is_live_by : goal.returns-then-is_live_by
+unfolding choice
+returns-then-is_live_by c =
+    let m = reading_of c.args.scan.band (block_in c.args.scan c.args.cuts.now) in
+    let t = c.requires in
+    let z = c.args.scan.lattice.sized in
+    let code = c.in_ok-code.code.names_edge in
+    guess_at m (turn_reached m t z) _ _ refl refl (turn_below m t z) z t.sited c.offsets-at.ensures c.in_ok-code.ensures
+    (inr (code, sym c.is_live_by.ensures ∙ c.if-is_live_by.true))
