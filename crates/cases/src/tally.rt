@@ -6,7 +6,7 @@ use text::print_line;
 // How often each number of document 01 was answered; how many records there were, how many of them
 // differ, and how many calls of each kind agree.
 #[derive(Drop)]
-pub struct Tally {
+pub(crate) struct Tally {
     answered: [u64; 13],
     records: u64,
     differences: u64,
@@ -16,7 +16,7 @@ pub struct Tally {
 }
 
 impl Tally {
-    pub fn new() -> Self {
+    pub(crate) fn new() -> Self {
         Tally {
             answered: [0; 13],
             records: 0,
@@ -27,29 +27,29 @@ impl Tally {
         }
     }
 
-    pub fn fillings(&self) -> u64 {
+    pub(crate) fn fillings(&self) -> u64 {
         self.fillings
     }
 
-    pub fn count_record(&mut self) {
+    pub(crate) fn count_record(&mut self) {
         self.records = self.records.wrapping_add(1);
     }
 
-    pub fn count_difference(&mut self) {
+    pub(crate) fn count_difference(&mut self) {
         self.differences = self.differences.wrapping_add(1);
     }
 
-    pub fn count_filling(&mut self, number: usize) {
+    pub(crate) fn count_filling(&mut self, number: usize) {
         self.fillings = self.fillings.wrapping_add(1);
         self.count_answers(number, 1);
     }
 
-    pub fn count_file(&mut self, number: usize) {
+    pub(crate) fn count_file(&mut self, number: usize) {
         self.files = self.files.wrapping_add(1);
         self.count_answers(number, 1);
     }
 
-    pub fn count_places(&mut self, number: usize, questions: u64) {
+    pub(crate) fn count_places(&mut self, number: usize, questions: u64) {
         self.places = self.places.wrapping_add(questions);
         self.count_answers(number, questions);
     }
@@ -62,7 +62,7 @@ impl Tally {
     }
 
     // How many calls agree and what they answered, or the record that differs.
-    pub fn print<W: Write>(&self, output: &mut W) -> io::Result<()> {
+    pub(crate) fn print<W: Write>(&self, output: &mut W) -> io::Result<()> {
         if self.differences != 0 {
             return print_line(output, b"record ", self.records, b" differs\n");
         }

@@ -22,8 +22,8 @@ pub struct Moved<'a> {
 
 // The six points that the tetrahedra between a cube and the next one along an axis have, in a block of n
 // points: the lower and the higher centre, and the shared face's corners in their turn, (-,-), (+,-),
-// (+,+), (-,+). (That they are points of the block stands in contracts, as `KnownCube`, for the reason that
-// `rows::Tetra` gives.)
+// (+,+), (-,+). (The axis is a number, and that they are points of the block stands in contracts, as
+// `KnownCube`, for the reasons that `rows::Tetra` gives.)
 #[derive(Clone, Copy)]
 pub struct Cube {
     pub n: usize,
@@ -32,7 +32,8 @@ pub struct Cube {
 }
 
 // All cubes with a next one along an axis: the six points counted from a cube's lowest corner and its
-// centre, and how many such cubes there are along x, y and z.
+// centre, and how many such cubes there are along x, y and z. (Of which block it is stands in contracts, as
+// `InPass`, since a pass does not hold the block.)
 #[derive(Clone, Copy)]
 pub struct Pass {
     pub step: Cube,

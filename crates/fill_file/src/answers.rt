@@ -1,5 +1,8 @@
 // What the bench program answers for a file: the counts of its block, or why it is refused.
-ghost use Rattle.std.specs.Prelude.{◌<◌};
+ghost use Rattle.std.specs.Prelude.{◌≡◌, ◌<◌};
+ghost use Rattle.refusals.specs.inner.Numbers.{number_of};
+
+use refusals::Refusal;
 
 // How many points and lattice tetrahedra a block has, how many points moved, and how many rows were
 // written.
@@ -18,4 +21,17 @@ pub struct Refused {
     pub number: u32,
     pub place: u64,
     ghost refuses: { 0 < number },
+}
+
+// A file that is not read is refused at no place.
+impl From<Refusal> for Refused {
+    ghost from_gives = { λ refusal r. (r.number ≡ number_of refusal) × (r.place ≡ 0) };
+
+    #[tactic(auto, using(crate::proofs::Outcome::refuses))]
+    fn from(refusal: Refusal) -> Refused {
+        Refused {
+            number: refusal.number(),
+            place: 0,
+        }
+    }
 }

@@ -78,13 +78,8 @@ pub fn summarize(
     ensures rows { rows.new
         ≡ (summary bytes.now samples.old cuts.old state.old rows.old).rows }
 {
-    match blockfile::file::read_whole(bytes, 5, samples, cuts) {
-        Ok(block) => fill_read(block, samples, cuts, state, rows),
-        Err(refusal) => Err(Refused {
-            number: refusal.number(),
-            place: 0,
-        }),
-    }
+    let block = blockfile::file::read_whole(bytes, 5, samples, cuts)?;
+    fill_read(block, samples, cuts, state, rows)
 }
 
 // All that the bench program prints, for the bytes of its input. The tables are large enough for 5 by

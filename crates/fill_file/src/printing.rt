@@ -1,6 +1,6 @@
 // What the bench program prints for an answer, as bytes.
 ghost use Rattle.std.specs.Prelude.{◌≡◌, [], ◌∷◌, ◌++◌, ◌+◌, ◌≤◌, length};
-ghost use Rattle.text.specs.Text.{newline, decimal};
+ghost use Rattle.text.specs.Text.{newline, ascii, decimal, line};
 ghost use Rattle.fill_file.specs.inner.Answer.{answer_of};
 ghost use Rattle.fill_file.specs.program.Printed.{printed};
 
@@ -29,14 +29,22 @@ fn counts(c: Counts) -> Text<113>
     text
 }
 
+// Writes the line of a refusal: a word of eight bytes, and two numbers.
+pub fn push_refusal<const N: usize>(text: &mut Text<N>, r: Refused)
+    requires { length text.old + 50 ≤ N }
+    ensures { text.new ≡ text.old ++ line (ascii "refused" ∷ decimal r.number ∷ decimal r.place ∷ []) }
+{
+    text.push(b"refused ");
+    text.push_field(u64::from(r.number), b' ');
+    text.push_field(r.place, b'\n');
+}
+
 // The line of a refusal.
 fn refusal(r: Refused) -> Text<113>
     ensures { result ≡ printed (answer_of (Err r)) }
 {
     let mut text = Text::new();
-    text.push(b"refused ");
-    text.push_field(u64::from(r.number), b' ');
-    text.push_field(r.place, b'\n');
+    push_refusal(&mut text, r);
     text
 }
 

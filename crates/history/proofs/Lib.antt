@@ -3,6 +3,7 @@ pub mod F2SamePoints
 pub mod F2Theorems
 pub mod F2Places
 pub mod F2Rows
+pub mod F5Ranges
 pub mod F9Signs
 pub mod F3BandZero
 pub mod F8Points

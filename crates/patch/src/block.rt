@@ -11,7 +11,8 @@ use lattice::{Lattice, Sizes};
 use mending::Mended;
 use refusals::Refusal;
 
-// Sizes, the band, then the lengths of the tables.
+// Sizes, the band, then the lengths of the tables. (One by one, as the call has them: what passes is built
+// here.)
 fn mend(s: Sizes, band: u32, samples: &[i16], cuts: &mut [u8]) -> Result<Counts, Refusal>
     ensures answer { answer_of result ≡ (mend band (block_of s samples.now cuts.old)).answer }
     ensures cuts { cuts.new ≡ (mend band (block_of s samples.now cuts.old)).cuts }

@@ -35,11 +35,14 @@ fn fitting(head: &[u8; 48], body: usize, samples: usize, cuts: usize) -> Option<
 fn states(head: &[u8; 48], number: u32, sizes: Sizes, end: usize) -> bool
     ensures { result ≡ same_read (record { number = number; nx = sizes.nx; ny = sizes.ny; nz = sizes.nz; end = end }) (stated_read head.now) }
 {
+    let stated = [
+        usize::from(numbers::two_at(head, 40)),
+        usize::from(numbers::two_at(head, 42)),
+        usize::from(numbers::two_at(head, 44)),
+    ];
     number == numbers::four_at(head, 32)
         && end == numbers::four_at(head, 36) as usize
-        && sizes.nx == usize::from(numbers::two_at(head, 40))
-        && sizes.ny == usize::from(numbers::two_at(head, 42))
-        && sizes.nz == usize::from(numbers::two_at(head, 44))
+        && [sizes.nx, sizes.ny, sizes.nz] == stated
 }
 
 // A file or a refusal is what the head states.

@@ -1,5 +1,5 @@
 -- Laws of the table of cuts, as the code reads it. Assumes nothing.
-use Prim.Native.Nat.{ℕ, zero, suc, ◌+◌, ◌*◌, ◌/◌, ◌%◌, ◌<◌}
+use Prim.Native.Nat.{ℕ, zero, suc, ◌+◌, ◌*◌, ◌/◌, ◌%◌, ◌<◌, min}
 use native.Mathlib.Omega.{arith}
 use mathlib.Core.Path.{◌≡◌, refl, ◌∙◌}
 use mathlib.Core.Bool.{Bool, true, false}
@@ -22,15 +22,12 @@ rank_lt v1 = omega arith
 rank_lt v2 = omega arith
 rank_lt v3 = omega arith
 
-pub rank_vertex : (v : ℕ) → v < 4 → rank (vertex_at v) ≡ v
-rank_vertex zero h = refl
-rank_vertex (suc zero) h = refl
-rank_vertex (suc (suc zero)) h = refl
-rank_vertex (suc (suc (suc zero))) h = refl
-rank_vertex (suc (suc (suc (suc v)))) h = absurd (omega arith)
-
-pub corner_lt : {t : Tetra} → KnownTetra t → (v : ℕ) → v < 4 → get_or t.corners v 0 < t.n
-corner_lt k v h = rw (rank_vertex v h) at (k.corner_in (vertex_at v))
+-- the rank of a corner by its number: from the fourth one on it is the fourth
+pub rank_min : (v : ℕ) → rank (vertex_at v) ≡ min v 3
+rank_min zero = refl
+rank_min (suc zero) = refl
+rank_min (suc (suc zero)) = refl
+rank_min (suc (suc (suc v))) = omega arith
 
 pub way_small : (a : Axis) (e : Quarter) (u v : Vertex) → way_between a e u v < 7
 unfolding way_between direction_of
@@ -41,7 +38,7 @@ way_small a e u v = go (ltb (rank u) (rank v))
     go false = omega arith
 
 -- what the code reads from its table: the start, and the direction
-module _ (t : Tetra) (u v : ℕ) (k : KnownTetra t) (hu : u < 4) (hv : v < 4) where
+module _ (t : Tetra) (u v : ℕ) (axis_in : t.axis < 3) (edge_in : t.edge < 4) (hu : u < 4) (hv : v < 4) where
   abbrev pub start : Vertex
   start = start_between (axis_at t.axis) (quarter_at t.edge) (vertex_at u) (vertex_at v)
 
@@ -51,7 +48,7 @@ module _ (t : Tetra) (u v : ℕ) (k : KnownTetra t) (hu : u < 4) (hv : v < 4) wh
   pub record Read (packed : ℕ) : Type 0 where
     pub start_lt : packed / 8 < 4
     pub way_lt : packed % 8 < 7
-    pub number_lt : get_or t.corners (packed / 8) 0 < t.n
+    pub number_lt : KnownTetra t → get_or t.corners (packed / 8) 0 < t.n
     pub cut_is : Edge (get_or t.corners (packed / 8) 0) (packed % 8) ≡ cut_at t u v
 
   pub read : {packed : ℕ} → packed ≡ cut_entry t.axis t.edge u v → Read packed
@@ -60,12 +57,12 @@ module _ (t : Tetra) (u v : ℕ) (k : KnownTetra t) (hu : u < 4) (hv : v < 4) wh
       record {
         start_lt = omega (arith, is, small, rank_lt start);
         way_lt = omega (arith, is, small);
-        number_lt = rw start_is (k.corner_in start);
+        number_lt = λ k. rw start_is (k.corner_in start);
         cut_is = λ i. Edge (get_or t.corners (start_is i) 0) (way_is i);
       }
     where
       is : packed ≡ 8 * rank start + way
-      is = e ∙ cut_entry_law t.axis t.edge u v k.axis_in k.edge_in hu hv
+      is = e ∙ cut_entry_law t.axis t.edge u v axis_in edge_in hu hv
 
       small : way < 7
       small = way_small (axis_at t.axis) (quarter_at t.edge) (vertex_at u) (vertex_at v)

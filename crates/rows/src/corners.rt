@@ -22,22 +22,20 @@ static CUTS: [[u8; 16]; 12] = [
 ];
 
 impl Tetra {
-    // One of its corners.
+    // One of its corners, of those from the fourth on the fourth.
     pub fn point(self, v: usize) -> Corner
-        requires known_tetra { KnownTetra self }
-        requires v_bound { v < 4 }
         ensures corner { result ≡ point_at self v }
-        ensures known { KnownCorner self.n result }
+        ensures known { KnownTetra self → KnownCorner self.n result }
     {
-        Corner::Point(self.corners[v])
+        Corner::Point(self.corners[v.min(3)])
     }
 
     // The cut between two of them, whichever is lower.
     pub fn cut(self, u: usize, v: usize) -> Corner
-        requires known_tetra { KnownTetra self }
+        requires tetrahedral { (self.axis < 3) × (self.edge < 4) }
         requires u_bound { (u < 4) × (v < 4) }
         ensures corner { result ≡ cut_at self u v }
-        ensures known { KnownCorner self.n result }
+        ensures known { KnownTetra self → KnownCorner self.n result }
     {
         let packed = CUTS[4 * self.axis + self.edge][4 * u + v] as usize;
         Corner::Edge(self.corners[packed / 8], packed % 8)

@@ -11,7 +11,8 @@ use labelling::scan::Scan;
 use lattice::{Lattice, Sizes};
 use refusals::Refusal;
 
-// Sizes, the band, then the lengths of the tables.
+// Sizes, the band, then the lengths of the tables. (One by one, as the call has them: what passes is built
+// here.)
 fn tables<'a>(
     sizes: Sizes,
     band: u32,
@@ -45,7 +46,8 @@ fn tables<'a>(
     Ok(CutTable { scan, cuts })
 }
 
-// Why a byte at fault refuses a block.
+// Why a byte at fault refuses a block. (No `From`: both types are other crates', and neither of these knows
+// the other.)
 #[tactic(auto, unfolding(refusals::specs::inner::Numbers::number_of, refusals::specs::inner::Numbers::place_of))]
 fn refusal(fault: Fault) -> Refusal
     ensures number { number_of result ≡ fault_number fault }

@@ -3,7 +3,8 @@
 
 pub mod volume;
 
-// A place: three signed coordinates, 256 to a doubled coordinate.
+// A place: three signed coordinates, 256 to a doubled coordinate. (In which box it is stands in contracts, as
+// `InBox`: places, differences and products have each their own, and the same struct.)
 #[derive(Clone, Copy)]
 pub struct Place {
     pub x: i64,

@@ -11,7 +11,7 @@ ghost use Rattle.volume_report.specs.inner.Small.{Small};
 
 use crate::{Outcome, Volumes};
 use blockfile::Loaded;
-use fill_file::answers::{Counts, Refused};
+use fill_file::answers::Counts;
 
 // The volumes of a block that was read and filled.
 fn measure(block: Loaded, filled: Counts, cuts: &[u8], state: &[u8], rows: &[u32]) -> Volumes
@@ -51,10 +51,7 @@ pub fn entry(bytes: &[u8]) -> Outcome
     let mut rows = [0u32; 14400];
     match blockfile::file::read(bytes, 5, &mut samples, &mut cuts) {
         Err(refusal) => Outcome {
-            volumes: Err(Refused {
-                number: refusal.number(),
-                place: 0,
-            }),
+            volumes: Err(refusal.into()),
             end: 0,
         },
         Ok(block) => {

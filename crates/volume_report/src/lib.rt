@@ -20,7 +20,7 @@ pub struct Volumes {
 }
 
 // What a file's line says, and where in the bytes the file ends: 0 where it is refused with 1, 11 or 12
-// and nobody knows.
+// and nobody knows. (0 and no `Option`: `entry_of`, the definition of what the report prints, says 0.)
 #[derive(Clone, Copy)]
 pub struct Outcome {
     pub volumes: Result<Volumes, Refused>,

@@ -6,6 +6,7 @@ ghost use Rattle.volume_report.specs.inner.Answer.{answer_of};
 
 use crate::{Outcome, Tally, Volumes};
 use fill_file::answers::Refused;
+use fill_file::printing::push_refusal;
 use text::Text;
 
 // The line of a file that was accepted: five fields of at most twenty digits, each with the byte that
@@ -29,9 +30,7 @@ fn refusal(index: u64, r: Refused) -> Text<105>
 {
     let mut text = Text::new();
     text.push_field(index, b' ');
-    text.push(b"refused ");
-    text.push_field(u64::from(r.number), b' ');
-    text.push_field(r.place, b'\n');
+    push_refusal(&mut text, r);
     text
 }
 

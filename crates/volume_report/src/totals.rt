@@ -66,6 +66,7 @@ pub fn count(t: Totals, o: Outcome) -> Totals
 }
 
 // A file refused with one of these numbers ends the report: where the next one starts is unknown.
+// (A number: the entry of which the report's definition asks this has one.)
 #[tactic(auto, unfolding(crate::specs::program::Report::is_last))]
 pub fn is_last(number: u32) -> bool
     ensures { result ≡ is_last number }

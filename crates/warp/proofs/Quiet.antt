@@ -6,7 +6,7 @@ use mathlib.Core.Logic.{◌⊎◌, inl, inr}
 use mathlib.Core.Bool.{true, false}
 use mathlib.Core.List.{List, [], ◌∷◌}
 use lib.ListN.{length, get_or, get_or-eq_default}
-use Rattle.std.proofs.Common.{Some}
+use Rattle.std.proofs.Common.{Option, Some}
 use Rattle.basics.proofs.Test.{lt_or}
 use Rattle.lattice.specs.declared.Sizes.{Sizes}
 use Rattle.lattice.specs.declared.Site.{Site}
@@ -30,9 +30,9 @@ use Rattle.lines.proofs.Points.{sited}
 use Rattle.lines.proofs.Lines.{line_stands, line_at_law}
 use Rattle.lines.proofs.Sites.{site_near}
 use Rattle.lines.proofs.FarEnds.{start_small, start_first, start_fourth, start_sixth, start_within}
-use Rattle.warp.specs.inner.Quick.{open_along, Offsets, by_byte, Uncut, Bare}
+use Rattle.warp.specs.inner.Quick.{open_along, Offsets, by_byte, byte_if, Uncut, Bare}
 use Rattle.warp.proofs.Offsets.{byte_start, byte_end}
-use Rattle.warp.proofs.Searching.{Stands, guess_none, guess_stands, live_at}
+use Rattle.warp.proofs.Searching.{Stands, by_byte_law, nearest_same, guess_none, guess_stands, live_at}
 
 -- a point without a cut does not move: a byte of 0 is no cut
 pub bare_stays : (m : Reading) (codes : List ℕ) (p : ℕ) → Bare m.sizes m.cuts p → choice m codes p ≡ 0
@@ -155,3 +155,18 @@ guess_at m {codes} r q at {p} {c} rule i inside h g o e l =
   where
     byte : ℕ → ℕ
     byte k = get_or m.cuts (get_or at (k - 1) 0) 0
+
+-- the same where only the codes are taken whose cuts are live
+pub open_choice : (m : Reading) {codes : List ℕ} → Reached m (outset m) codes → (q : Site) (at : List ℕ) {c : ℕ} → m.rule ≡ rule1
+    → q.own < points m.sizes → Sized m.sizes → Sited m.sizes q → Offsets m.sizes q at
+    → c ≡ nearest (byte_if (λ k. open_along codes q.own (neighbour m.sizes q.own k)) m.cuts at) → c ≡ nearest (violation_by m codes q.own)
+unfolding byte_if by_byte
+open_choice m {codes} r q at rule inside h g o e = e ∙ nearest_same asked (violation_by m codes q.own) same
+  where
+    asked : ℕ → Option ℕ
+    asked = byte_if (λ k. open_along codes q.own (neighbour m.sizes q.own k)) m.cuts at
+
+    same : (k : ℕ) → 1 ≤ k → k ≤ 14 → asked k ≡ violation_by m codes q.own k
+    same k l u =
+        let code : Code k = record { low = l; high = u } in
+        sym (by_byte_law m codes q.own k (offset_byte m q at refl h g o code refl) _ (live_at m r k code refl inside refl) ∙ rw rule refl)

@@ -1,8 +1,10 @@
 -- The search of a point code by code: the nearest so far; and when the bytes alone decide. Assumes nothing.
 --     Searching                          the search has come to a code: search_starts, search_nearer, search_keeps, search_ends
---     by_byte_law                            a cut that is live violates as its byte does, any other not at all; so by_far, when_dead
+--     byte_of, if_taken, if_left, if_far     a code that is taken violates as its byte does, any other not at all
+--     all_taken, nearest_same                the nearest, where all are taken, and where the codes violate alike
+--     by_byte_law                            a cut that is live violates as its byte does, any other not at all
 --     guess_none, guess_stands           so if nothing violates by the bytes nothing does, and the nearest by the bytes is the nearest if it is live
---     byte_of, Stands, live_at, chosen_new what the code asks, in the definitions' terms
+--     Stands, live_at, chosen_new            what the code asks, in the definitions' terms
 use Prim.Native.Nat.{ℕ, suc, ◌+◌, ◌-◌, ◌≤◌, ◌<◌}
 use native.Mathlib.Omega.{arith}
 use mathlib.Core.Path.{◌≡◌, refl, sym, ap, subst, ◌∙◌}
@@ -26,7 +28,7 @@ use Rattle.moving.specs.Moving.{choice, outset}
 use Rattle.moving.proofs.Settled.{Reached}
 use Rattle.moving.proofs.Bytes.{code_move}
 use Rattle.moving.proofs.Nearest.{nearest_le, fewer_none, fewer_same}
-use Rattle.warp.specs.inner.Quick.{live_along, open_along, by_byte}
+use Rattle.warp.specs.inner.Quick.{live_along, open_along, by_byte, byte_if}
 use Rattle.warp.specs.inner.Turns.{chosen}
 use Rattle.warp.proofs.Live.{open_live}
 
@@ -80,13 +82,45 @@ module _ {by : ℕ → Option ℕ} {found : ℕ} {best : Option ℕ} {c : ℕ} (
   pub search_ends : 15 ≤ c → found ≡ nearest by
   search_ends l = let e : c - 1 ≡ 14 = omega (arith, i.high) in rw e at i.is
 
--- the byte of a code by the place in the list of offsets
-pub byte_of : (cuts at : List ℕ) (k : ℕ) {t : ℕ} {v : Option ℕ} → t ≡ get_or cuts (get_or at k 0) 0 → v ≡ violation rule1 (k + 1) t
-    → v ≡ by_byte cuts at (k + 1)
+-- the byte of a code, looked up by its offset
+pub byte_of : (cuts at : List ℕ) (c : ℕ) {t : ℕ} {v : Option ℕ} → t ≡ get_or cuts (get_or at (c - 1) 0) 0 → v ≡ violation rule1 c t
+    → v ≡ by_byte cuts at c
 unfolding by_byte
-byte_of cuts at k e f =
-    let z : k + 1 - 1 ≡ k = omega arith in
-    f ∙ ap (violation rule1 (k + 1)) (e ∙ ap (λ (j : ℕ). get_or cuts (get_or at j 0) 0) (sym z))
+byte_of cuts at c e f = f ∙ ap (violation rule1 c) e
+
+-- a code that is taken violates as its byte does, one that is left not at all; so one whose byte is no nearer is no nearer
+module _ (taken : ℕ → Bool) (cuts at : List ℕ) (c : ℕ) where
+  pub if_taken : {v : Option ℕ} → v ≡ by_byte cuts at c → taken c ≡ true → v ≡ byte_if taken cuts at c
+  unfolding byte_if
+  if_taken e t = rw t e
+
+  pub if_left : (w : Option ℕ) → taken c ≡ false → nearer (byte_if taken cuts at c) w ≡ false
+  unfolding byte_if nearer
+  if_left w t = rw t refl
+
+  pub if_far : (w : Option ℕ) {v : Option ℕ} → v ≡ by_byte cuts at c → nearer v w ≡ false → nearer (byte_if taken cuts at c) w ≡ false
+  unfolding byte_if nearer
+  if_far w {v} e n = go (taken c)
+    where
+      go : (b : Bool) → nearer (if b then by_byte cuts at c else None) w ≡ false
+      go true = rw (← e) n
+      go false = refl
+
+-- where all codes are taken it is the nearest by the bytes
+pub all_taken : (cuts at : List ℕ) → nearest (byte_if (λ k. true) cuts at) ≡ nearest (by_byte cuts at)
+unfolding byte_if
+all_taken cuts at = refl
+
+-- where the codes violate alike the nearest is one
+pub nearest_same : (f g : ℕ → Option ℕ) → ((k : ℕ) → 1 ≤ k → k ≤ 14 → f k ≡ g k) → nearest f ≡ nearest g
+nearest_same f g same =
+    elim (lt_or 0 (nearest g)) [
+      | inl u ↦ fewer_same g f 14 (omega arith) fewer (same (nearest g) u (nearest_le g 14 (omega arith)))
+      | inr u ↦ let z : nearest g ≡ 0 = omega arith in fewer_none g f 14 (omega arith) fewer z ∙ sym z
+    ]
+  where
+    fewer : (k : ℕ) → 1 ≤ k → k ≤ 14 → (f k ≡ g k) ⊎ (f k ≡ None)
+    fewer k l u = inl (same k l u)
 
 -- the byte t stands for the edge from p by a code, if there is one
 abbrev pub Stands : Reading → ℕ → ℕ → ℕ → Type 0
@@ -112,16 +146,6 @@ module _ (m : Reading) (codes : List ℕ) (p : ℕ) where
       go : (b : Bool) → lives c ≡ b → (violation_by m codes p c ≡ violation m.rule c t) ⊎ (violation_by m codes p c ≡ None)
       go true l = inl (by_byte_law c byte true l)
       go false l = inr (by_byte_law c byte false l)
-
-  -- a cut whose byte is no nearer is no nearer, nor is one that is not live
-  pub by_far : (c : ℕ) {t : ℕ} → Stands m p c t → (w : Option ℕ) → nearer (violation m.rule c t) w ≡ false
-      → nearer (violation_by m codes p c) w ≡ false
-  unfolding nearer
-  by_far c byte w e = elim (by_byte_or c byte) [ inl s ↦ rw s e | inr z ↦ rw z refl ]
-
-  pub when_dead : (c : ℕ) {t : ℕ} → Stands m p c t → (w : Option ℕ) → lives c ≡ false → nearer (violation_by m codes p c) w ≡ false
-  unfolding nearer
-  when_dead c byte w l = rw (by_byte_law c byte false l) refl
 
   -- the bytes of all codes
   module _ (t : ℕ → ℕ) (bytes : (c : ℕ) → Code c → Stands m p c (t c)) where

@@ -1,5 +1,5 @@
 // Which points move, and by which code.
-ghost use Rattle.std.specs.Prelude.{◌≡◌, ◌+◌, ◌<◌, ◌≤◌, length};
+ghost use Rattle.std.specs.Prelude.{◌≡◌, ℕ, Bool, ◌+◌, ◌<◌, ◌≤◌, length};
 ghost use Rattle.lattice.specs.Axis.{along_x};
 ghost use Rattle.lattice.specs.Counts.{grid, points};
 ghost use Rattle.lattice.specs.Edge.{neighbour};
@@ -11,8 +11,8 @@ ghost use Rattle.moving.specs.Block.{reading_of};
 ghost use Rattle.filling.specs.Fill.{moved_count};
 ghost use Rattle.labelling.specs.inner.Scans.{label_in, block_in};
 ghost use Rattle.lines.specs.inner.Lines.{Line};
-ghost use Rattle.warp.specs.inner.Quick.{unfaded, open_along, by_byte, outset_of, Offsets};
-ghost use Rattle.warp.specs.inner.Turns.{chosen, Turn};
+ghost use Rattle.warp.specs.inner.Quick.{unfaded, open_along, byte_if, outset_of};
+ghost use Rattle.warp.specs.inner.Turns.{chosen, Telling, Turn};
 
 use crate::bytes;
 use labelling::scan::Scan;
@@ -41,42 +41,20 @@ fn is_live_by(lattice: Lattice, state: &[u8], q: Site, code: EdgeCode) -> bool
     }
 }
 
-// The code whose byte violates the point and is the nearest, whatever the labels. No test ends
-// early, so that the compiler unrolls the loop.
-fn nearest_byte(cuts: &[u8], at: [usize; 14]) -> Option<EdgeCode>
-    ensures { chosen result ≡ nearest (by_byte cuts.now at) }
-{
-    let mut found: usize = 0;
-    let mut best: Option<usize> = None;
-    for k in 0..14 {
-        let v = violation::violation(EdgeCode { code: k + 1 }, bytes::cut_at(cuts, at[k]));
-        if violation::is_nearer(v, best) {
-            best = v;
-            found = k + 1;
-        }
-    }
-    EdgeCode::new(found)
-}
-
-// The same among the codes whose cuts are live: the search goes through all of them.
-// (The number is the code; only its byte is looked up by it.)
-fn nearest_live(
-    scan: Scan<'_>,
-    cuts: &[u8],
-    state: &[u8],
-    q: Site,
-    at: [usize; 14],
-) -> Option<EdgeCode>
-    requires turn { Turn (reading_of scan.band (block_in scan cuts.now)) q state.now }
-    requires offsets { Offsets scan.lattice.sizes q at }
-    ensures { chosen result ≡ choice (reading_of scan.entry.band (block_in scan.entry cuts.now)) state.now q.own }
+// The nearest code among those that are taken and whose bytes violate the point. No test ends early,
+// so that the compiler unrolls the loop. (By the code: it numbers the byte, and it is the answer. Beside
+// `best`, and not in it: `is_nearer` compares two distances, for which a pair would be taken apart.)
+fn nearest<F: Fn(EdgeCode) -> bool>(cuts: &[u8], at: [usize; 14], is_taken: F) -> Option<EdgeCode>
+    requires { F.IsAlwaysCallable is_taken }
+    ensures { (taken : ℕ → Bool) → Telling (F.post is_taken) taken
+        → chosen result ≡ nearest (byte_if taken cuts.now at) }
 {
     let mut found: usize = 0;
     let mut best: Option<usize> = None;
     for code in 1..15 {
         let by = EdgeCode { code };
         let v = violation::violation(by, bytes::cut_at(cuts, at[code - 1]));
-        if violation::is_nearer(v, best) && is_live_by(scan.lattice, state, q, by) {
+        if violation::is_nearer(v, best) && is_taken(by) {
             best = v;
             found = code;
         }
@@ -92,11 +70,11 @@ fn turn(scan: Scan<'_>, cuts: &[u8], state: &[u8], q: Site) -> Option<EdgeCode>
     ensures { chosen result ≡ choice (reading_of scan.entry.band (block_in scan.entry cuts.now)) state.now q.own }
 {
     let at = bytes::offsets(scan.lattice, q);
-    let code = nearest_byte(cuts, at)?;
+    let code = nearest(cuts, at, |_| true)?;
     if is_live_by(scan.lattice, state, q, code) {
         return Some(code);
     }
-    nearest_live(scan, cuts, state, q, at)
+    nearest(cuts, at, |by| is_live_by(scan.lattice, state, q, by))
 }
 
 // The points of a line take their turns. The answer counts those that move.

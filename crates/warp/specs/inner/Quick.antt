@@ -1,5 +1,5 @@
 -- What the tests of a point compute and say. By the bytes alone it is decided that a point stays; that it moves, only with a cut that is live.
-use Rattle.std.specs.Prelude.{ℕ, ◌+◌, ◌*◌, ◌-◌, ◌≤◌, ◌<◌, ◌≡◌, Bool, false, not, ◌&&◌, List, map, get_or, Option, Some, None}
+use Rattle.std.specs.Prelude.{ℕ, ◌+◌, ◌*◌, ◌-◌, ◌≤◌, ◌<◌, ◌≡◌, Bool, false, not, ◌&&◌, if◌then◌else◌, List, map, get_or, Option, Some, None}
 use Rattle.basics.specs.Lists.{below}
 use Rattle.lattice.specs.declared.Sizes.{Sizes}
 use Rattle.lattice.specs.declared.Site.{Site}
@@ -36,6 +36,10 @@ pub record Offsets (s : Sizes) (q : Site) (at : List ℕ) : Type 0 where
 -- how the bytes at these offsets violate, by code, whatever the labels
 unfoldable pub by_byte : List ℕ → List ℕ → ℕ → Option ℕ
 by_byte cuts at c = violation rule1 c (get_or cuts (get_or at (c - 1) 0) 0)
+
+-- the same of the codes that are taken alone
+unfoldable pub byte_if : (ℕ → Bool) → List ℕ → List ℕ → ℕ → Option ℕ
+byte_if taken cuts at c = if taken c then by_byte cuts at c else None
 
 -- no cut on the edges that start at the m + 1 points from one on
 pub record Uncut (cuts : List ℕ) (from m : ℕ) : Type 0 where

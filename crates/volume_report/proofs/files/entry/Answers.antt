@@ -1,13 +1,7 @@
 -- A file that is refused, a block that is refused, or its volumes. Assumes nothing.
-use native.Mathlib.Omega.{arith}
-use mathlib.Core.Path.{refl}
-use Rattle.fill_file.proofs.Outcome.{refuses}
 use Rattle.volume_report.proofs.Opening.{opens}
 use Rattle.volume_report.proofs.Entries.{unread, refused_small, loaded_fits, refused_entry, counts_state, counts_few, counts_ready, counts_entry}
 use Rattle.volume_report.proofs.files.entry.Goals as goal
-
-pub invariant_of-result : goal.invariant_of-result
-invariant_of-result c = let h = refuses c.in-Err.refusal in record { refuses = omega (arith, c.number.ensures) }
 
 pub fill_read-requires : goal.fill_read-requires
 fill_read-requires c =
@@ -17,7 +11,7 @@ fill_read-requires c =
 pub returns-in-Err-clause-value : goal.returns-in-Err-clause-value
 returns-in-Err-clause-value c =
     let e = c.in-Err.ensures in
-    unread _ _ (opens e.value e.samples_after e.cuts_after) c.number.ensures refl
+    unread _ _ (opens e.value e.samples_after e.cuts_after) c.into.ensures.0 c.into.ensures.1
 
 pub returns-in-Err-clause-small : goal.returns-in-Err-clause-small
 returns-in-Err-clause-small c = refused_small _ _
