@@ -34,8 +34,9 @@ use Rattle.blockfile.specs.Format.{
 }
 use Rattle.blockfile.specs.inner.Answer.{answer_of}
 use Rattle.refusals.specs.declared.Refusal.{Refusal}
-use Rattle.refusals.specs.declared.Refusal.TheVariants.{Sizes as Refused, Samples, Cuts, State, Rim, Gap, Stray, Id, Move, File, Room, Unit, Band, Quads}
-use Rattle.refusals.specs.inner.Numbers.{number_of}
+use Rattle.refusals.specs.declared.Refusal.TheVariants.{Sizes as Refused, Samples, Cuts, State, Rim, Gap, Stray}
+use Rattle.refusals.specs.declared.Refusal.TheVariants.{Id, Move, File, Room, Unit, Band, Quads}
+use Rattle.refusals.specs.inner.Numbers.{refusal_number}
 use Rattle.blockfile.specs.declared.Loaded.{Loaded}
 use Rattle.blockfile.proofs.Outcome.{samples_long, file_cuts_long}
 
@@ -48,7 +49,7 @@ is_of e w = rw e w
 
 -- no refusal has the number 0
 pub no_zero : (e : Refusal) → (answer_of (Err e)).number ≡ 0 → ⊥
-unfolding answer_of number_of refusal
+unfolding answer_of refusal_number refusal
 no_zero Refused h = omega arith
 no_zero Samples h = omega arith
 no_zero Cuts h = omega arith
@@ -229,7 +230,7 @@ module _ (bytes : List ℕ) (limit : ℕ) (samples : List ℤ) (cuts : List ℕ)
     loaded_written h f g = written p refl h f g
 
     pub loaded_long : o.end < length bytes → Is (read_whole bytes limit samples cuts) (answer_of (Err File)) samples cuts
-    unfolding answer_of number_of
+    unfolding answer_of refusal_number
     loaded_long h = is_of (whole_long p refl h) (refl, (refl, refl))
 
     pub loaded_all : length bytes ≤ o.end → read_whole bytes limit samples cuts ≡ read bytes limit samples cuts

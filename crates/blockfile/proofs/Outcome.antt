@@ -35,7 +35,7 @@ use Rattle.blockfile.specs.Format.{
 use Rattle.blockfile.specs.inner.Answer.{answer_of}
 use Rattle.refusals.specs.declared.Refusal.{Refusal}
 use Rattle.refusals.specs.declared.Refusal.TheVariants.{Sizes as Refused, File, Room}
-use Rattle.refusals.specs.inner.Numbers.{number_of}
+use Rattle.refusals.specs.inner.Numbers.{refusal_number}
 use Rattle.blockfile.specs.declared.Loaded.{Loaded}
 use Rattle.blockfile.specs.inner.Needs.{Opens, Shut, short, misfit, over}
 use Rattle.blockfile.proofs.Fitting.{fit_head, fit_tail, fit_earlier}
@@ -76,15 +76,15 @@ answer_of_law e p = rw e p
 
 module _ {samples : List ℤ} {cuts : List ℕ} {o : Outcome} where
   pub refused_sizes : o ≡ refused samples cuts 1 → answer_of (Err Refused) ≡ o.answer
-  unfolding answer_of number_of
+  unfolding answer_of refusal_number
   refused_sizes p = answer_of_law p refl
 
   pub refused_file : o ≡ refused samples cuts 11 → answer_of (Err File) ≡ o.answer
-  unfolding answer_of number_of
+  unfolding answer_of refusal_number
   refused_file p = answer_of_law p refl
 
   pub refused_room : o ≡ refused samples cuts 12 → answer_of (Err Room) ≡ o.answer
-  unfolding answer_of number_of
+  unfolding answer_of refusal_number
   refused_room p = answer_of_law p refl
 
 -- after the size bytes

@@ -1,6 +1,7 @@
 -- Document 01, "The bench program": a block file, and what reading one answers and leaves in the lent tables, for every input.
 -- `read` takes a file from the start of the bytes and says where it ends; `read_whole` refuses what is "too long", as the program does.
-use Rattle.std.specs.Prelude.{ℕ, zero, suc, ◌+◌, ◌*◌, ◌-◌, Bool, true, not, ◌&&◌, List, [], ◌∷◌, ◌++◌, ℤ, pos, negsuc, length, get_or, take, drop, replicate, ltb, leb, eqb, if◌then◌else◌}
+use Rattle.std.specs.Prelude.{ℕ, zero, suc, ◌+◌, ◌*◌, ◌-◌, Bool, true, not, ◌&&◌, List, [], ◌∷◌, ◌++◌}
+use Rattle.std.specs.Prelude.{ℤ, pos, negsuc, length, get_or, take, drop, replicate, ltb, leb, eqb, if◌then◌else◌}
 use Rattle.lattice.specs.declared.Sizes.{Sizes}
 use Rattle.lattice.specs.Axis.{somewhere}
 use Rattle.lattice.specs.Counts.{size, sizes_fit, points}

@@ -33,12 +33,12 @@ use Rattle.places.specs.declared.stored.Stored.{Stored}
 use Rattle.places.specs.inner.Answer.{answer_of}
 use Rattle.refusals.specs.declared.Refusal.{Refusal}
 use Rattle.refusals.specs.declared.Refusal.TheVariants.{Sizes, Samples, Cuts, State, Rim, Gap, Stray, Id, Move, File, Room, Unit, Band, Quads}
-use Rattle.refusals.specs.inner.Numbers.{number_of}
+use Rattle.refusals.specs.inner.Numbers.{refusal_number}
 use Rattle.triple.specs.declared.Place.{Place}
 use Rattle.coordinates.specs.inner.Marked.{fault, located, first, AllPlaced, Unplaced, FirstRefused}
 
-pub number_some : (r : Refusal) → number_of r ≡ 0 → ⊥
-unfolding number_of
+pub number_some : (r : Refusal) → refusal_number r ≡ 0 → ⊥
+unfolding refusal_number
 number_some Sizes e = cc
 number_some Samples e = cc
 number_some Cuts e = cc
@@ -70,7 +70,7 @@ module _ (t : Stored) where
   found_ok id (Ok p) e = sym (eq-eqb _ _ (sym (number_is id (Ok p) e)))
   found_ok id (Err r) e = sym (ne_eqb _ _ (λ z. number_some r (number_is id (Err r) e ∙ z)))
 
-  pub found_number : (id : ℕ) (why : Refusal) → answer_of (Err why) ≡ located t id → number_of why ≡ fault t id
+  pub found_number : (id : ℕ) (why : Refusal) → answer_of (Err why) ≡ located t id → refusal_number why ≡ fault t id
   found_number id why e = number_is id (Err why) e
 
   pub placed_here : (id : ℕ) (p : Place) → answer_of (Ok p) ≡ located t id → fault t id ≡ 0
@@ -184,7 +184,7 @@ module _ {t : Stored} {rows : List ℕ} where
           is_why = is;
         }
       where
-        is : number_of why ≡ fault t (get_or rows i 0)
+        is : refusal_number why ≡ fault t (get_or rows i 0)
         is = found_number t (get_or rows i 0) why e
 
         faulty : fault t (get_or rows i 0) ≡ 0 → ⊥

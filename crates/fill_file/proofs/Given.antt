@@ -7,8 +7,9 @@ use Rattle.blockfile.specs.Format.{read}
 use Rattle.blockfile.specs.inner.Write.{write}
 use Rattle.blockfile.specs.cases.Examples.{given_file, lent_samples, lent_cuts}
 use Rattle.blockfile.proofs.Opened.{format}
+use Rattle.fill_file.specs.program.Summary.{bench_limit, bench_points, bench_cuts}
 
-pub given_reads : read given_file 5 (lent_samples 341) (lent_cuts 2387)
+pub given_reads : read given_file bench_limit (lent_samples bench_points) (lent_cuts bench_cuts)
     ≡ record {
       answer = record { number = 0; nx = 2; ny = 2; nz = 2; end = 137 };
       samples = given_samples ++ lent_samples 306;

@@ -7,7 +7,7 @@ use Prim.Native.Nat.{◌<◌}
 use native.Mathlib.Omega.{arith}
 use Rattle.std.specs.Prelude.{Ok, Err}
 use Rattle.refusals.specs.declared.Refusal.{Refusal}
-use Rattle.refusals.specs.inner.Numbers.{number_of}
+use Rattle.refusals.specs.inner.Numbers.{refusal_number}
 use Rattle.blockfile.specs.declared.Loaded.{Loaded}
 use Rattle.blockfile.proofs.Checked.{no_zero}
 use Rattle.fill_file.specs.declared.answers.Refused.{Refused}
@@ -19,7 +19,7 @@ use Rattle.fill_file.specs.inner.Answer.{answer_of}
 use Rattle.fill_file.proofs.Counted.{Is}
 
 -- no refusal of the reader has the number 0
-pub refuses : (e : Refusal) → 0 < number_of e
+pub refuses : (e : Refusal) → 0 < refusal_number e
 unfolding file_answer refusal_of
 refuses e = let h = no_zero e in omega arith
 
@@ -37,7 +37,7 @@ module _ (bytes : List ℕ) (samples : List ℤ) (cuts state rows : List ℕ) {r
 -- the same of what the reader gives
 module _ (bytes : List ℕ) (samples : List ℤ) (cuts state rows : List ℕ) where
   pub refused_as : (e : Refusal) (r : Refused) → file_answer (Err e) ≡ (read_whole bytes bench_limit samples cuts).answer
-      → r.number ≡ number_of e → r.place ≡ 0 → Is (summary bytes samples cuts state rows) (answer_of (Err r)) state rows
+      → r.number ≡ refusal_number e → r.place ≡ 0 → Is (summary bytes samples cuts state rows) (answer_of (Err r)) state rows
   unfolding file_answer refusal_of answer_of
   refused_as e r p n z = file_refused bytes samples cuts state rows p (no_zero e) (rw (n, z) refl)
 

@@ -1,6 +1,6 @@
 // What the bench program answers for a file: the counts of its block, or why it is refused.
 ghost use Rattle.std.specs.Prelude.{◌≡◌, ◌<◌};
-ghost use Rattle.refusals.specs.inner.Numbers.{number_of};
+ghost use Rattle.refusals.specs.inner.Numbers.{refusal_number};
 
 use refusals::Refusal;
 
@@ -25,7 +25,7 @@ pub struct Refused {
 
 // A file that is not read is refused at no place.
 impl From<Refusal> for Refused {
-    ghost from_gives = { λ refusal r. (r.number ≡ number_of refusal) × (r.place ≡ 0) };
+    ghost from_gives = { λ refusal r. (r.number ≡ refusal_number refusal) × (r.place ≡ 0) };
 
     #[tactic(auto, using(crate::proofs::Outcome::refuses))]
     fn from(refusal: Refusal) -> Refused {

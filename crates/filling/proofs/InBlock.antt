@@ -23,10 +23,8 @@ use Rattle.moving.proofs.Bytes.{move_code}
 use Rattle.geometry.specs.Place.{rest, cut_place, moved_place, point_place, place_of}
 use Rattle.geometry.proofs.InBlock.{cube_steps, Steps, rest_in, cut_in, moved_in}
 use Rattle.filling.specs.declared.Placed.{Placed}
-use Rattle.filling.specs.inner.Orders.{locate_order}
-use Rattle.filling.specs.Located.{placed, unplaced, believable, stands_to, stands, id_fault, locate}
+use Rattle.filling.specs.Located.{placed, unplaced, believable, stands_to, stands, id_fault, locate_order, locate}
 use Rattle.filling.proofs.Refusing.{whichever}
-use Rattle.filling.proofs.Listed.{locate_listed}
 
 -- no coordinate of any block is further from 0: 512 steps for each of 64 cubes
 abbrev pub most_steps : ℕ
@@ -83,11 +81,11 @@ module _ (s : Sizes) (cuts state : List ℕ) (bytes : Bytes cuts) where
       go false b false p true t f = stands_in (id - n) (omega (arith, leb-false (8 * n) id p, ltb-false id n b)) t a
 
   pub located_in : (id : ℕ) (a : Axis) → coordinate (locate s cuts state id) a ≤ cube_steps * size s a
+  unfolding locate
   located_in id a =
-      rw (locate_listed s cuts state id)
-      (whichever (λ n at. unplaced n) (λ p. coordinate p a ≤ cube_steps * size s a) (locate_order s cuts state id) (placed (place_of s cuts state id))
-      (λ n at. zeros n a)
-      (λ (sized, (cut, (stated, (fine, end)))). inside (place_in id (eqb-true _ _ (not-false _ fine))) a))
+      whichever (λ n at. unplaced n) (λ p. coordinate p a ≤ cube_steps * size s a) (locate_order s cuts state id)
+      (placed (place_of s cuts state id)) (λ n at. zeros n a)
+      (λ (sized, (cut, (stated, (fine, end)))). inside (place_in id (eqb-true _ _ (not-false _ fine))) a)
     where
       zeros : (n : ℕ) (a : Axis) → coordinate (unplaced n) a ≤ cube_steps * size s a
       zeros n along_x = omega arith

@@ -2,7 +2,6 @@ pub mod ABlock
 pub mod APlace
 pub mod Opened
 pub mod Refusing
-pub mod Listed
 pub mod Tests
 pub mod Accepted
 pub mod Demanded

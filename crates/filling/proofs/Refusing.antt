@@ -9,7 +9,7 @@ use mathlib.Core.Path.{◌≡◌, refl}
 use mathlib.Core.Logic.{◌⊎◌, inl, inr}
 use mathlib.Core.Bool.{Bool, true, false}
 use mathlib.Core.List.{List, [], ◌∷◌, ◌++◌}
-use Rattle.filling.specs.inner.Refusal.{Refusal, first_of}
+use Rattle.filling.specs.Refusal.{Refusal, first_of}
 
 abbrev pub Each : (Refusal → Type 0) → List Refusal → Type 0
 Each P [] = Unit {0}

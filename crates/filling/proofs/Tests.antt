@@ -28,7 +28,7 @@ use Rattle.moving.specs.Block.{Block, reading_of, Tabled}
 use Rattle.moving.proofs.Band.{fits_banded}
 use Rattle.filling.specs.Mesh.{rows_with}
 use Rattle.filling.specs.Check.{rim_fault, crosses, cut_fault, first_rim, first_cut}
-use Rattle.filling.specs.inner.Refusal.{Refusal, first_of, wrong_sizes, wrong_band, wrong_samples, wrong_cuts, wrong_state}
+use Rattle.filling.specs.Refusal.{Refusal, first_of, wrong_sizes, wrong_band, wrong_samples, wrong_cuts, wrong_state}
 use Rattle.filling.specs.Fill.{Outcome, refused, written, fill}
 use Rattle.filling.proofs.Refusing.{Each, goes, none_applies}
 

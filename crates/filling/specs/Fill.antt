@@ -1,16 +1,15 @@
 -- Document 01, "Calls and refusals", and document 02's F-3, "A noise band", and F-9, "Band before rim": what filling answers and leaves in
 -- the lent tables, for every input.
-use Rattle.std.specs.Prelude.{ℕ, ◌*◌, not, List, ◌++◌, length, get_or, drop, ltb, leb, eqb, if◌then◌else◌}
+use Rattle.std.specs.Prelude.{ℕ, ◌*◌, List, [], ◌∷◌, ◌++◌, length, get_or, drop, leb, if◌then◌else◌}
 use Rattle.basics.specs.Lists.{count}
-use Rattle.lattice.specs.Counts.{sizes_fit, points}
-use Rattle.moving.specs.Label.{labels, band_fits}
+use Rattle.moving.specs.Label.{labels}
 use Rattle.moving.specs.State.{is_move}
 use Rattle.moving.specs.Reading.{Reading}
 use Rattle.moving.specs.Moving.{state_of}
 use Rattle.moving.specs.Block.{Block, reading_of}
 use Rattle.filling.specs.declared.Filled.{Filled}
 use Rattle.filling.specs.Mesh.{rows_with, table}
-use Rattle.filling.specs.Check.{cut_fault, first_rim, first_cut}
+use Rattle.filling.specs.Refusal.{Refusal, first_of, wrong_sizes, wrong_band, wrong_samples, wrong_cuts, wrong_state, plus_on_rim, wrong_byte}
 
 -- the answer, the state table and the row table after the call
 pub record Outcome : Type 0 where
@@ -44,21 +43,15 @@ module _ (state rows : List ℕ) where
         rows = if fits then overwritten (table mesh) rows else rows;
       }
 
-module _ (band : ℕ) (b : Block) (state rows : List ℕ) where
-  -- "1 to 5, then the lowest byte that is a 6 or a 7 (its offset is the place), then 10"; F-3: "14 "band", the band is above 32767,
-  -- directly after 1"; F-9: "rim and cut-byte tests read labels"
-  unfoldable pub fill : Outcome
-  fill =
+module _ (band : ℕ) (b : Block) (state : List ℕ) where
+  -- "1 to 5, then the lowest byte that is a 6 or a 7 (its offset is the place), then 10"; F-3: 14 "directly after 1"; F-9: "rim and cut-byte
+  -- tests read labels". 10 is not in the list: it needs the rows, and `written` finds it
+  abbrev pub fill_order : List Refusal
+  fill_order =
       let s = b.sizes in
       let label = labels band b.samples in
-      let rim = first_rim s label in
-      let cut = first_cut s label b.cuts in
-      let refuse = refused state rows in
-      if not (sizes_fit s) then refuse 1 0
-      else if not (band_fits band) then refuse 14 0
-      else if not (eqb (length b.samples) (points s)) then refuse 2 0
-      else if not (eqb (length b.cuts) (7 * points s)) then refuse 3 0
-      else if not (eqb (length state) (points s)) then refuse 4 0
-      else if ltb rim (points s) then refuse 5 rim
-      else if ltb cut (7 * points s) then refuse (cut_fault s label b.cuts cut) cut
-      else written state rows (reading_of band b)
+      wrong_sizes s ∷ wrong_band band ∷ wrong_samples s b.samples ∷ wrong_cuts s b.cuts ∷ wrong_state s state
+      ∷ plus_on_rim s label ∷ wrong_byte s label b.cuts ∷ []
+
+  unfoldable pub fill : List ℕ → Outcome
+  fill rows = first_of (refused state rows) fill_order (written state rows (reading_of band b))

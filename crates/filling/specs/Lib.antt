@@ -1,6 +1,6 @@
 pub mod Mesh
 pub mod Check
+pub mod Refusal
 pub mod Fill
 pub mod Located
 pub mod Demand
-pub mod inner

@@ -1,14 +1,16 @@
 -- Document 01, "Calls and refusals", and document 02's F-8: what the place call answers, for every input.
-use Rattle.std.specs.Prelude.{ℕ, ◌*◌, ◌-◌, ◌/◌, ◌%◌, Bool, true, false, not, ◌&&◌, List, nat_abs, length, get_or, ltb, leb, eqb, if◌then◌else◌, Option, Some, None}
+use Rattle.std.specs.Prelude.{ℕ, ◌*◌, ◌-◌, ◌/◌, ◌%◌, Bool, true, false, not, ◌&&◌, List, [], ◌∷◌, nat_abs, get_or, ltb, leb, eqb, if◌then◌else◌}
+use Rattle.std.specs.Prelude.{Option, Some, None}
 use Rattle.lattice.specs.declared.Sizes.{Sizes}
 use Rattle.lattice.specs.Axis.{along_x, along_y, along_z}
-use Rattle.lattice.specs.Counts.{sizes_fit, points}
+use Rattle.lattice.specs.Counts.{points}
 use Rattle.lattice.specs.Direction.{as_start}
 use Rattle.lattice.specs.Edge.{neighbour, byte_at, edge_byte}
 use Rattle.moving.specs.Violation.{rule1, violates}
 use Rattle.moving.specs.State.{is_move, no_move, says_zero}
 use Rattle.geometry.specs.Place.{Place, place_of}
 use Rattle.filling.specs.declared.Placed.{Placed}
+use Rattle.filling.specs.Refusal.{Refusal, first_of, wrong_sizes, wrong_cuts, wrong_state, wrong_id}
 
 -- an answer with a place: no coordinate of a place is below 0
 abbrev pub placed : Place → Placed
@@ -50,10 +52,8 @@ module _ (s : Sizes) (cuts state : List ℕ) where
       else 8
 
   -- "Place of an id reads sizes, cuts and state: 1, 3, 4, 8, 9"
+  abbrev pub locate_order : ℕ → List Refusal
+  locate_order id = wrong_sizes s ∷ wrong_cuts s cuts ∷ wrong_state s state ∷ wrong_id (id_fault id) ∷ []
+
   unfoldable pub locate : ℕ → Placed
-  locate id =
-      if not (sizes_fit s) then unplaced 1
-      else if not (eqb (length cuts) (7 * points s)) then unplaced 3
-      else if not (eqb (length state) (points s)) then unplaced 4
-      else if eqb (id_fault id) 0 then placed (place_of s cuts state id)
-      else unplaced (id_fault id)
+  locate id = first_of (λ n at. unplaced n) (locate_order id) (placed (place_of s cuts state id))

@@ -220,7 +220,8 @@ start_within s q g x f d h e n = go q.kind refl is
     is : get_or (starts_at s (line_at q x)) d 0 ≡ e
     is = start_is s (line_at q x) f d h e n
 
-    go : (k : Kind) → q.kind ≡ k → get_or (starts_of k s (line_at q x)) d 0 ≡ e → (get_or (starts_of k s q) d 0 ≤ e) × (e ≤ get_or (starts_of k s q) d 0 + x)
+    go : (k : Kind) → q.kind ≡ k → get_or (starts_of k s (line_at q x)) d 0 ≡ e
+        → (get_or (starts_of k s q) d 0 ≤ e) × (e ≤ get_or (starts_of k s q) d 0 + x)
     go Corner k w =
         let b = back_within (s.nx + 1) ((s.nx + 1) * (s.ny + 1)) s.nx q.own _ _ x d (further k) h in
         (omega arith, omega arith)

@@ -4,4 +4,3 @@ pub mod Sizes
 pub mod Bytes
 pub mod Tested
 pub mod Theorems
-pub mod Listed

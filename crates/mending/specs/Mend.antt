@@ -3,16 +3,17 @@
 --     size_of, rounded, held     the byte between two samples, by their sizes
 --     fault_at                   what filling would say of a byte
 --     mended_byte, faults        what becomes of a byte, and how many are at fault
---     mended, mend               the call
-use Rattle.std.specs.Prelude.{ℕ, ◌+◌, ◌*◌, ◌/◌, ◌%◌, not, List, map, ℤ, pos, nat_abs, length, get_or, ltb, eqb, if◌then◌else◌, Option, Some, None}
+--     mended, mend_order, mend   the call
+use Rattle.std.specs.Prelude.{ℕ, ◌+◌, ◌*◌, ◌/◌, ◌%◌, List, [], ◌∷◌, map, ℤ, pos, nat_abs, get_or, ltb, eqb, if◌then◌else◌, Option, Some, None}
 use Rattle.basics.specs.Lists.{below, count}
-use Rattle.lattice.specs.Counts.{sizes_fit, points}
+use Rattle.lattice.specs.Counts.{points}
 use Rattle.lattice.specs.Direction.{as_start}
 use Rattle.lattice.specs.Edge.{neighbour}
 use Rattle.moving.specs.declared.Label.{Label}
-use Rattle.moving.specs.Label.{labels, band_fits}
+use Rattle.moving.specs.Label.{labels}
 use Rattle.moving.specs.Block.{Block}
 use Rattle.filling.specs.Check.{cut_fault}
+use Rattle.filling.specs.Refusal.{Refusal, first_of, wrong_sizes, wrong_band, wrong_samples, wrong_cuts}
 use Rattle.mending.specs.declared.Mended.{Mended}
 
 -- a sample's size: that of -32768 is 32,768
@@ -69,11 +70,8 @@ abbrev pub refused : List ℕ → ℕ → Outcome
 refused cuts n = record { answer = record { number = n; filled = 0; cleared = 0 }; cuts = cuts }
 
 -- "Checks: 1, 2, 3"; F-9: "14 comes directly after 1 in the mending tool as well"
+abbrev pub mend_order : ℕ → Block → List Refusal
+mend_order band b = wrong_sizes b.sizes ∷ wrong_band band ∷ wrong_samples b.sizes b.samples ∷ wrong_cuts b.sizes b.cuts ∷ []
+
 unfoldable pub mend : ℕ → Block → Outcome
-mend band b =
-    let n = points b.sizes in
-    if not (sizes_fit b.sizes) then refused b.cuts 1
-    else if not (band_fits band) then refused b.cuts 14
-    else if not (eqb (length b.samples) n) then refused b.cuts 2
-    else if not (eqb (length b.cuts) (7 * n)) then refused b.cuts 3
-    else mended (labels band b.samples) b
+mend band b = first_of (λ n at. refused b.cuts n) (mend_order band b) (mended (labels band b.samples) b)

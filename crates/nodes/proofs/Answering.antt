@@ -23,7 +23,7 @@ use Rattle.filling.specs.Located.{believable, id_fault, locate}
 use Rattle.lines.proofs.Points.{points_some}
 use Rattle.refusals.specs.declared.Refusal.{Refusal}
 use Rattle.refusals.specs.declared.Refusal.TheVariants.{Quads}
-use Rattle.refusals.specs.inner.Numbers.{number_of}
+use Rattle.refusals.specs.inner.Numbers.{refusal_number}
 use Rattle.places.specs.declared.stored.Stored.{Stored}
 use Rattle.windows.specs.inner.Windows.{Beyond, Spread}
 use Rattle.numbering.specs.declared.Numbered.{Numbered}
@@ -128,7 +128,7 @@ module _ (st : Stored) where
 
     -- the refusal of a row table of no whole rows
     pub quads_said : (nodes : List ℕ) → (length rows % 4 ≡ 0 → ⊥) → Says sizes cuts state rows nodes (answer_of (Err (Call Quads))) rows nodes
-    unfolding answer_of number_of
+    unfolding answer_of refusal_number
     quads_said nodes n =
         says sizes cuts state rows nodes
         (rows_refused sizes cuts state rows nodes st.lattice.sized st.cuts_long st.state_long n) refl refl refl
@@ -198,8 +198,8 @@ module _ (s : Sizes) (cuts state : List ℕ) (n : ℕ) (all : (id : ℕ) → n �
       sizes false e = size_refused s cuts state rows nodes e ∙ ap by (sym (all 0 ∙ size_law s cuts state 0 e))
 
 pub tables_said : (s : Sizes) (cuts state rows nodes : List ℕ) (why : Refusal)
-    → ((id : ℕ) → number_of why ≡ (locate s cuts state id).number)
+    → ((id : ℕ) → refusal_number why ≡ (locate s cuts state id).number)
     → Says s cuts state rows nodes (answer_of (Err (Call why))) rows nodes
 unfolding answer_of
 tables_said s cuts state rows nodes why all =
-    says s cuts state rows nodes (refused_by s cuts state (number_of why) all rows nodes) refl refl refl
+    says s cuts state rows nodes (refused_by s cuts state (refusal_number why) all rows nodes) refl refl refl

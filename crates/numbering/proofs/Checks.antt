@@ -6,7 +6,7 @@
 use Prim.Native.Nat.{ℕ, ◌*◌, ◌%◌, ◌≤◌, ◌<◌}
 use native.Mathlib.Omega.{arith}
 use mathlib.Core.Path.{◌≡◌, refl, ◌∙◌}
-use mathlib.Core.Bool.{false, not}
+use mathlib.Core.Bool.{false}
 use mathlib.Core.List.{List}
 use lib.Dec.{ltb, leb}
 use lib.ListN.{length, get_or}
@@ -16,7 +16,7 @@ use Rattle.lattice.specs.declared.Sizes.{Sizes}
 use Rattle.lattice.specs.Counts.{sizes_fit, points, Sized}
 use Rattle.lattice.proofs.Sized.{sized_fits}
 use Rattle.filling.specs.Located.{id_fault}
-use Rattle.numbering.specs.Nodes.{Outcome, node_count, first_unplaced, refused, numbered, number}
+use Rattle.numbering.specs.Nodes.{Outcome, node_count, first_unplaced, refused, numbered, numbered_in, number}
 use Rattle.numbering.specs.inner.Whole.{Whole}
 
 module _ (s : Sizes) (cuts state rows nodes : List ℕ) where
@@ -56,10 +56,7 @@ module _ (s : Sizes) (cuts state rows nodes : List ℕ) where
 
   -- then 8 or 9, then 10
   module _ (h : Whole s cuts state rows) where
-    passed : call
-        ≡ (if ltb first (length rows) then refuse first_fault 0 first
-        else if not (leb (4 * needed) (length nodes)) then refuse 10 needed 0
-        else numbered s cuts state rows nodes)
+    passed : call ≡ (if ltb first (length rows) then refuse first_fault 0 first else numbered_in s cuts state rows nodes)
     unfolding number
     passed =
         let fit = sized_fits s h.sized in

@@ -9,4 +9,3 @@ pub mod Told
 pub mod After
 pub mod Refusals
 pub mod Theorems
-pub mod Listed

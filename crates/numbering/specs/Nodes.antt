@@ -2,12 +2,14 @@
 --     used, node_number              the ids in use, and the number of each
 --     node_of, node, node_table       what the node table holds
 --     first_unplaced                 the first entry whose id has no place
---     Outcome, refused, numbered, number    the call
-use Rattle.std.specs.Prelude.{ℕ, ◌*◌, ◌%◌, Bool, false, not, ◌||◌, List, [], ◌∷◌, map, length, get_or, ltb, leb, eqb, if◌then◌else◌}
+--     number_order                   the call's refusals, in their order
+--     Outcome, refused, numbered, numbered_in, number    the call
+use Rattle.std.specs.Prelude.{ℕ, ◌*◌, Bool, false, not, ◌||◌, List, [], ◌∷◌, map, length, get_or, leb, eqb, if◌then◌else◌}
 use Rattle.basics.specs.Lists.{gather, below, lowest, count}
 use Rattle.lattice.specs.declared.Sizes.{Sizes}
-use Rattle.lattice.specs.Counts.{sizes_fit, points}
+use Rattle.lattice.specs.Counts.{points}
 use Rattle.filling.specs.declared.Placed.{Placed}
+use Rattle.filling.specs.Refusal.{Refusal, first_of, wrong_sizes, wrong_cuts, wrong_state, wrong_rows, wrong_entry}
 use Rattle.filling.specs.Fill.{overwritten}
 use Rattle.filling.specs.Located.{id_fault, locate}
 use Rattle.numbering.specs.declared.Numbered.{Numbered}
@@ -48,6 +50,14 @@ module _ (s : Sizes) (cuts state rows : List ℕ) where
   unfoldable pub first_unplaced : ℕ
   first_unplaced = lowest (λ i. not (eqb (id_fault s cuts state (get_or rows i 0)) 0)) (length rows)
 
+  -- "Checks: 1, 3, 4, then 15 .. then 8 or 9, then 10"; "8 or 9 as the place call would", "the place is that entry's index from 0, and every
+  -- other answer has place 0"
+  abbrev pub number_order : List Refusal
+  number_order =
+      let first = first_unplaced in
+      wrong_sizes s ∷ wrong_cuts s cuts ∷ wrong_state s state ∷ wrong_rows rows
+      ∷ wrong_entry rows (id_fault s cuts state (get_or rows first 0)) first ∷ []
+
   module _ (nodes : List ℕ) where
     -- "A refusal changes neither table"
     abbrev pub refused : ℕ → ℕ → ℕ → Outcome
@@ -62,16 +72,10 @@ module _ (s : Sizes) (cuts state rows : List ℕ) where
           nodes = overwritten node_table nodes;
         }
 
-    -- "Checks: 1, 3, 4, then 15 .. then 8 or 9, then 10"; "10 is answered with the nodes needed; every other refusal gives 0 nodes";
-    -- "8 or 9 as the place call would", "the place is that entry's index from 0, and every other answer has place 0"
+    -- "If the node table holds fewer than four numbers a node, 10 is answered with the nodes needed"
+    abbrev pub numbered_in : Outcome
+    numbered_in = if leb (4 * node_count) (length nodes) then numbered else refused 10 node_count 0
+
+    -- "every other refusal gives 0 nodes"
     unfoldable pub number : Outcome
-    number =
-        let n = points s in
-        let first = first_unplaced in
-        if not (sizes_fit s) then refused 1 0 0
-        else if not (eqb (length cuts) (7 * n)) then refused 3 0 0
-        else if not (eqb (length state) n) then refused 4 0 0
-        else if not (eqb (length rows % 4) 0) then refused 15 0 0
-        else if ltb first (length rows) then refused (id_fault s cuts state (get_or rows first 0)) 0 first
-        else if not (leb (4 * node_count) (length nodes)) then refused 10 node_count 0
-        else numbered
+    number = first_of (λ n at. refused n 0 at) number_order numbered_in

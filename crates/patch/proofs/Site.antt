@@ -78,7 +78,9 @@ module _ (band : ℕ) (s : Sizes) (samples : List ℤ) (q : Site) (h : Sized s) 
     site_mended w =
         same_due
         (λ d l u. ap (λ (o : Option ℕ). is_some o) (end_is d u) ∙ told (crosses s label q.own d) (get_or far d 0))
-        (λ d l u t. ap (byte_to samples q.own) (end_is d u ∙ ap (λ (b : Bool). end_if b (get_or far d 0)) t ∙ sym (leads_to_law d u t).0)) (omega arith) w
+        (λ d l u t.
+        ap (byte_to samples q.own) (end_is d u ∙ ap (λ (b : Bool). end_if b (get_or far d 0)) t ∙ sym (leads_to_law d u t).0))
+        (omega arith) w
       where
         told : (t : Bool) (n : ℕ) → is_some (end_if t n) ≡ t
         told true n = refl

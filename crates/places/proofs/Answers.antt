@@ -171,12 +171,7 @@ module _ (s : Sizes) (cuts state : List ℕ) (id : ℕ) where
         called : locate s cuts state id
             ≡ (if not (eqb (id_fault s cuts state id) 0) then unplaced (id_fault s cuts state id) else placed (place_of s cuts state id))
         unfolding locate
-        called = rw (f, eq-eqb _ _ lc, eq-eqb _ _ ls) (go (eqb (id_fault s cuts state id) 0))
-          where
-            go : (z : Bool) → (if z then placed (place_of s cuts state id) else unplaced (id_fault s cuts state id))
-                ≡ (if not z then unplaced (id_fault s cuts state id) else placed (place_of s cuts state id))
-            go true = refl
-            go false = refl
+        called = rw (f, eq-eqb _ _ lc, eq-eqb _ _ ls) refl
 
         pub call-point : id < points s → point_answer s cuts state id ≡ locate s cuts state id
         unfolding point_answer id_fault place_of

@@ -71,7 +71,8 @@ whole bytes rest {eights} {n} v g z e f w o =
       | inl u ↦
           let is : o / 8 * 8 + o % 8 ≡ o = omega arith in
           let i : o / 8 < n = omega arith in
-          let here : get_or (get_or (first_chunks 8 n bytes) (o / 8) []) (o % 8) 0 ≡ 0 = rw e at (v.none z (o / 8) (omega arith) (o % 8) (omega arith) (omega arith)) in
+          let none = v.none z (o / 8) (omega arith) (o % 8) (omega arith) (omega arith) in
+          let here : get_or (get_or (first_chunks 8 n bytes) (o / 8) []) (o % 8) 0 ≡ 0 = rw e at none in
           ap (λ (k : ℕ). get_or bytes k 0) (sym is) ∙ sym (byte_at n (o / 8) (o % 8) bytes i (omega arith)) ∙ here
       | inr u ↦
           let is : n * 8 + (o - n * 8) ≡ o = omega arith in

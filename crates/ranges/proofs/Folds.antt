@@ -51,8 +51,8 @@ without_more {plus} {samples} {p} {a} {b} w f g = record { none = λ band t j u.
         ]
 
 -- the same as the code has it: by the bits of the outermost samples, and of the one that was read
-module _ (bits : ℕ) {plus : Bool} {samples : List ℤ} {p : ℕ} {a x b : ℤ} (i : Without plus samples p a) (is : to_z w16 bits ≡ to_z w16 (of_z w16 b)) (small : mag b < 2 ^ 15)
-    (read : x ≡ get_or samples p (pos 0)) where
+module _ (bits : ℕ) {plus : Bool} {samples : List ℤ} {p : ℕ} {a x b : ℤ} (i : Without plus samples p a)
+    (is : to_z w16 bits ≡ to_z w16 (of_z w16 b)) (small : mag b < 2 ^ 15) (read : x ≡ get_or samples p (pos 0)) where
   next : Within plus a b → Within plus x b → Without plus samples (p + 1) (to_z w16 bits)
   next f g = subst (Without plus samples (p + 1)) (sym (is ∙ handed b small)) (without_more i f (subst (λ (z : ℤ). Within plus z b) read g))
 

@@ -2,7 +2,7 @@
 #![tactic(auto)]
 
 ghost use Rattle.std.specs.Prelude.{◌≡◌};
-ghost use Rattle.refusals.specs.inner.Numbers.{number_of, place_of};
+ghost use Rattle.refusals.specs.inner.Numbers.{refusal_number, refusal_place};
 
 // A refusal that is found at a place holds it: a point, the offset of a byte, an entry.
 #[derive(Clone, Copy)]
@@ -36,9 +36,9 @@ pub enum Refusal {
 
 impl Refusal {
     // The papers' number.
-    #[tactic(auto, unfolding(crate::specs::inner::Numbers::number_of))]
+    #[tactic(auto, unfolding(crate::specs::inner::Numbers::refusal_number))]
     pub fn number(self) -> u32
-        ensures { result ≡ number_of self }
+        ensures { result ≡ refusal_number self }
     {
         match self {
             Refusal::Sizes => 1,
@@ -59,9 +59,9 @@ impl Refusal {
     }
 
     // The place, 0 where there is none.
-    #[tactic(auto, unfolding(crate::specs::inner::Numbers::place_of))]
+    #[tactic(auto, unfolding(crate::specs::inner::Numbers::refusal_place))]
     pub fn place(self) -> usize
-        ensures { result ≡ place_of self }
+        ensures { result ≡ refusal_place self }
     {
         match self {
             Refusal::Rim(p) => p,

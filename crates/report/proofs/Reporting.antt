@@ -2,7 +2,8 @@
 -- (`Turns`). Assumes nothing.
 --     begins, goes_on               before the first turn, and after one that goes on
 --     ends_full, ends_over, ends_last    the three ways to end: all lines of the report are written
-use Rattle.std.proofs.Common.{◌≡◌, ℕ, ◌<◌, ◌≤◌, List, [], ◌∷◌, ◌++◌, take, length, true, false, Bool, Result, Ok, Err, Option, None, Some, OnOk, IfSome, refl, sym, ap, subst, ◌∙◌, arith, append_assoc, append-nil}
+use Rattle.std.proofs.Common.{◌≡◌, ℕ, ◌<◌, ◌≤◌, List, [], ◌∷◌, ◌++◌, take, length, true, false, Bool, Result, Ok, Err, Option}
+use Rattle.std.proofs.Common.{None, Some, OnOk, IfSome, refl, sym, ap, subst, ◌∙◌, arith, append_assoc, append-nil}
 use Rattle.std.specs.List.{concat}
 use Rattle.std.proofs.lemmas.List.Folds.{concat-append}
 use Rattle.std.specs.Io.KnownBytes.{Appends, Consumes, IsAtEnd}

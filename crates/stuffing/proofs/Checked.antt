@@ -23,7 +23,7 @@ use Rattle.filling.specs.Fill.{refused, fill}
 use Rattle.filling.proofs.Accepted.{label_in, fault_in, rim_of, cut_of}
 use Rattle.refusals.specs.declared.Refusal.{Refusal}
 use Rattle.refusals.specs.declared.Refusal.TheVariants.{Rim}
-use Rattle.refusals.specs.inner.Numbers.{number_of as refusal_number, place_of}
+use Rattle.refusals.specs.inner.Numbers.{refusal_number, refusal_place}
 use Rattle.checks.specs.declared.CutTable.{CutTable}
 use Rattle.checks.specs.declared.Fault.{Fault}
 use Rattle.checks.specs.declared.Fault.TheVariants.{Gap, Stray}
@@ -78,18 +78,18 @@ module _ {band : ℕ} {b : Block} {n : ℕ} {t : CutTable} (h : Taken band b n t
   small = omega (arith, h.band_is, h.banded)
 
   refuses : {e : Refusal} → ((state rows : List ℕ) → length state ≡ points its.sizes
-      → fill t.scan.band its state rows ≡ refused state rows (refusal_number e) (place_of e)) → Refuses band b n e
+      → fill t.scan.band its state rows ≡ refused state rows (refusal_number e) (refusal_place e)) → Refuses band b n e
   refuses {e} f =
       subst (λ (k : ℕ). Refuses k b n e) h.band_is
       (subst (λ (c : Block). Refuses t.scan.band c n e) h.block_is
       (record { is = λ state rows l. f state rows (sym l ∙ h.state_long ∙ ap (λ (c : Block). points c.sizes) (sym h.block_is)) }))
 
   pub at_rim : {p : ℕ} → p ≡ rim_of t.scan.band its → p < points its.sizes → Refuses band b n (Rim p)
-  unfolding refusal_number place_of
+  unfolding refusal_number refusal_place
   at_rim e l = refuses (λ state rows long. rim_refused t.scan.band its small tabled state rows long e l)
 
   pub at_cut : points its.sizes ≤ rim_of t.scan.band its → (f : Fault) → CutAnswer its.sizes (label_in t.scan.band its) its.cuts (Err f)
-      → (e : Refusal) → refusal_number e ≡ fault_number f → place_of e ≡ fault_offset f → Refuses band b n e
+      → (e : Refusal) → refusal_number e ≡ fault_number f → refusal_place e ≡ fault_offset f → Refuses band b n e
   at_cut r f a e same place =
       refuses (λ state rows long.
       cut_refused t.scan.band its small tabled state rows long r f a ∙ (λ i. refused state rows (sym same i) (sym place i)))

@@ -1,7 +1,7 @@
 // The checks of a block, in the papers' order.
 ghost use Rattle.std.specs.Prelude.{◌≡◌};
 ghost use Rattle.moving.specs.Block.{block_of};
-ghost use Rattle.refusals.specs.inner.Numbers.{number_of, place_of};
+ghost use Rattle.refusals.specs.inner.Numbers.{refusal_number, refusal_place};
 ghost use Rattle.checks.specs.inner.Faults.{fault_number, fault_offset};
 ghost use Rattle.stuffing.specs.inner.Checks.{Tables, Checked};
 
@@ -48,10 +48,10 @@ fn tables<'a>(
 
 // Why a byte at fault refuses a block. (No `From`: both types are other crates', and neither of these knows
 // the other.)
-#[tactic(auto, unfolding(refusals::specs::inner::Numbers::number_of, refusals::specs::inner::Numbers::place_of))]
+#[tactic(auto, unfolding(refusals::specs::inner::Numbers::refusal_number, refusals::specs::inner::Numbers::refusal_place))]
 fn refusal(fault: Fault) -> Refusal
-    ensures number { number_of result ≡ fault_number fault }
-    ensures place { place_of result ≡ fault_offset fault }
+    ensures number { refusal_number result ≡ fault_number fault }
+    ensures place { refusal_place result ≡ fault_offset fault }
 {
     match fault {
         Fault::Gap(o) => Refusal::Gap(o),

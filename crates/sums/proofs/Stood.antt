@@ -12,9 +12,7 @@ use Rattle.lattice.specs.declared.Sizes.{Sizes}
 use Rattle.lattice.specs.Axis.{Axis, along_x, along_y, along_z}
 use Rattle.geometry.specs.Place.{place_of}
 use Rattle.filling.specs.declared.Placed.{Placed}
-use Rattle.filling.specs.inner.Orders.{locate_order}
-use Rattle.filling.specs.Located.{placed, unplaced, id_fault, locate}
-use Rattle.filling.proofs.Listed.{locate_listed}
+use Rattle.filling.specs.Located.{placed, unplaced, id_fault, locate_order, locate}
 use Rattle.filling.proofs.Refusing.{Each, goes}
 use Rattle.filling.proofs.InBlock.{coordinate, place_in, located_small}
 use Rattle.triple.specs.declared.Place.{Place}
@@ -28,9 +26,10 @@ held_as p = record { x = to_z w64 p.x; y = to_z w64 p.y; z = to_z w64 p.z }
 
 module _ (s : Sizes) (cuts state : List ℕ) (id : ℕ) (w : Standing s cuts state id) where
   faultless : id_fault s cuts state id ≡ 0
+  unfolding locate
   faultless =
       elim (goes (λ n at. unplaced n) (λ r. r.number ≡ 0 → id_fault s cuts state id ≡ 0) (locate_order s cuts state id) harmless) [
-        | inl (r, fine, is) ↦ fine (ap (λ (p : Placed). p.number) (sym (locate_listed s cuts state id ∙ is (placed (place_of s cuts state id))) ∙ w.answered))
+        | inl (r, fine, is) ↦ fine (ap (λ (p : Placed). p.number) (sym (is (placed (place_of s cuts state id))) ∙ w.answered))
         | inr (a, (c, (d, (fine, end)))) ↦ eqb-true _ _ (not-false _ fine)
       ]
     where

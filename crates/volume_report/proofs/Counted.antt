@@ -38,7 +38,8 @@ module _ (t : Tally) (e : Entry) where
 
 -- the same of what a call gives
 module _ (t : Tally) (r : Result Volumes Refused) (end : ℕ) where
-  pub count_refused : {d : Refused} → r ≡ Err d → record { files = t.files + 1; tetrahedra = t.tetrahedra; sum = t.sum } ≡ counted t (entry_with r end)
+  pub count_refused : {d : Refused} → r ≡ Err d
+      → record { files = t.files + 1; tetrahedra = t.tetrahedra; sum = t.sum } ≡ counted t (entry_with r end)
   unfolding entry_with refusal
   count_refused {d} e = let h = d.refuses in rw e (refused_counted t _ (λ z. omega arith))
 

@@ -7,7 +7,7 @@ use Rattle.std.specs.Prelude.{Ok, Err}
 use Rattle.lattice.specs.Counts.{points}
 use Rattle.moving.specs.Block.{Bytes}
 use Rattle.refusals.specs.declared.Refusal.{Refusal}
-use Rattle.refusals.specs.inner.Numbers.{number_of}
+use Rattle.refusals.specs.inner.Numbers.{refusal_number}
 use Rattle.bounds.specs.inner.Most.{rows_most}
 use Rattle.sums.specs.inner.Measured.{Measured}
 use Rattle.blockfile.specs.declared.Loaded.{Loaded}
@@ -66,7 +66,7 @@ unfolding entry_with
 refused_small r end = refusal_small _ _ _ refl
 
 module _ {bytes : List ℕ} {samples : List ℤ} {cuts : List ℕ} where
-  pub unread : (e : Refusal) (r : Refused) → Opens bytes (file_answer (Err e)) samples cuts → r.number ≡ number_of e → r.place ≡ 0
+  pub unread : (e : Refusal) (r : Refused) → Opens bytes (file_answer (Err e)) samples cuts → r.number ≡ refusal_number e → r.place ≡ 0
       → entry_with (Err r) 0 ≡ entry_of bytes
   unfolding file_answer file_refusal entry_with
   unread e r w n z = file_refused w (no_zero e) (rw (n, z) refl)

@@ -16,7 +16,7 @@ pub struct Measures {
 }
 
 // The count of lattice points and of lattice tetrahedra of a block of nx by ny by nz cubes.
-#[tactic(auto, using(crate::proofs::Measured::measured, crate::proofs::Measured::unmeasured), unfolding(refusals::specs::inner::Numbers::number_of))]
+#[tactic(auto, using(crate::proofs::Measured::measured, crate::proofs::Measured::unmeasured), unfolding(refusals::specs::inner::Numbers::refusal_number))]
 pub fn yakuemi_measures(nx: u32, ny: u32, nz: u32) -> Measures
     ensures { result ≡ measure (sizes nx ny nz) }
 {

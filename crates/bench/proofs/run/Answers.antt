@@ -12,4 +12,6 @@ whole (Ok x) None old new text held n e w t h = tt
 whole (Ok x) (Some bytes) old new text held n e w t h = subst (Appends old new) (t ∙ ap output (h ∙ ap (λ (k : ℕ). take k bytes) e)) w
 
 pub returns : goal.returns
-returns g c = whole _ (g.R.Read.remaining c.args.input.now) _ _ _ _ 9046 (search rules) c.write_all.ensures.bytes (c.as_slice.ensures ∙ c.output-text.ensures) c.in_ok-n.ensures.first_bytes
+returns g c =
+    whole _ (g.R.Read.remaining c.args.input.now) _ _ _ _ 9046 (search rules) c.write_all.ensures.bytes
+    (c.as_slice.ensures ∙ c.output-text.ensures) c.in_ok-n.ensures.first_bytes

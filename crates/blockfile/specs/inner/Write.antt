@@ -1,5 +1,6 @@
 -- A block as a file: document 01's format the other way round. The runs are the longest rows of non-zero cut bytes.
-use Rattle.std.specs.Prelude.{ℕ, ◌+◌, ◌-◌, ◌/◌, ◌%◌, ◌≤◌, ◌≡◌, Bool, true, false, ◌&&◌, List, [], ◌∷◌, ◌++◌, ℤ, pos, negsuc, length, eqb, leb, ltb, if◌then◌else◌}
+use Rattle.std.specs.Prelude.{ℕ, ◌+◌, ◌-◌, ◌/◌, ◌%◌, ◌≤◌, ◌≡◌, Bool, true, false, ◌&&◌, List, [], ◌∷◌, ◌++◌, ℤ, pos}
+use Rattle.std.specs.Prelude.{negsuc, length, eqb, leb, ltb, if◌then◌else◌}
 use Rattle.basics.specs.Lists.{gather}
 use Rattle.moving.specs.Block.{Block, Tabled}
 use Rattle.blockfile.specs.declared.Run.{Run}

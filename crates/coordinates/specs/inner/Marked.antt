@@ -9,7 +9,7 @@ use Rattle.filling.specs.declared.Placed.{Placed}
 use Rattle.filling.specs.Located.{id_fault, locate}
 use Rattle.places.specs.declared.stored.Stored.{Stored}
 use Rattle.refusals.specs.declared.Refusal.{Refusal}
-use Rattle.refusals.specs.inner.Numbers.{number_of}
+use Rattle.refusals.specs.inner.Numbers.{refusal_number}
 use Rattle.numbering.specs.Nodes.{node_of, first_unplaced}
 
 module _ (s : Sizes) (cuts state : List ℕ) where
@@ -40,4 +40,4 @@ module _ (t : Stored) where
   pub record FirstRefused (rows : List ℕ) (entry : ℕ) (why : Refusal) : Type 0 where
     pub is_first : entry ≡ first rows
     pub within : entry < length rows
-    pub is_why : number_of why ≡ fault (get_or rows entry 0)
+    pub is_why : refusal_number why ≡ fault (get_or rows entry 0)

@@ -2,7 +2,7 @@
 use Rattle.std.specs.Prelude.{ℕ, List, [], ◌∷◌, ◌++◌, pos, replicate}
 use Rattle.casebook.specs.cases.Given.{unchanged, byte_at, sample_at, changed}
 use Rattle.blockfile.specs.inner.Write.{write}
-use Rattle.fill_file.specs.program.Summary.{Summary, refusal, summary}
+use Rattle.fill_file.specs.program.Summary.{bench_points, bench_cuts, bench_rows, Summary, refusal, summary}
 
 -- "points N, lattice tetrahedra, M, T"
 abbrev pub lines : ℕ → ℕ → ℕ → ℕ → Summary
@@ -30,7 +30,8 @@ examples =
 
 -- "Its tables are arrays filled with zero, large enough for 5 by 5 by 5"
 abbrev pub printed : Example → Summary
-printed (prints bytes r) = (summary bytes (replicate 341 (pos 0)) (replicate 2387 0) (replicate 341 0) (replicate 14400 0)).answer
+printed (prints bytes r) =
+    (summary bytes (replicate bench_points (pos 0)) (replicate bench_cuts 0) (replicate bench_points 0) (replicate bench_rows 0)).answer
 
 abbrev pub expected : Example → Summary
 expected (prints bytes r) = r

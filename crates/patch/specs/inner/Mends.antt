@@ -8,7 +8,8 @@
 --     HasEnds                         what the code asks of the edges from a point
 --     due_in                          the same of the table of a scan
 --     FineUpTo, FineTo                points of a line that have no byte at fault, and the first that has one
-use Rattle.std.specs.Prelude.{ℕ, ◌+◌, ◌*◌, ◌/◌, ◌%◌, ◌≤◌, ◌<◌, ◌≡◌, List, ℤ, length, get_or, eqb, if◌then◌else◌, Bool, true, false, Option, Some, None, is_some, IfSome, MatchOption}
+use Rattle.std.specs.Prelude.{ℕ, ◌+◌, ◌*◌, ◌/◌, ◌%◌, ◌≤◌, ◌<◌, ◌≡◌, List, ℤ, length, get_or, eqb, if◌then◌else◌, Bool, true, false}
+use Rattle.std.specs.Prelude.{Option, Some, None, is_some, IfSome, MatchOption}
 use Rattle.basics.specs.Lists.{count}
 use Rattle.lattice.specs.declared.Sizes.{Sizes}
 use Rattle.lattice.specs.declared.Site.{Site}

@@ -10,13 +10,13 @@ use Rattle.geometry.specs.Place.{cut_place, moved_place, point_place}
 use Rattle.filling.specs.declared.Placed.{Placed}
 use Rattle.filling.specs.Located.{placed, unplaced, believable, stands}
 use Rattle.refusals.specs.declared.Refusal.{Refusal}
-use Rattle.refusals.specs.inner.Numbers.{number_of}
+use Rattle.refusals.specs.inner.Numbers.{refusal_number}
 use Rattle.triple.specs.declared.Place.{Place}
 use Rattle.triple.specs.inner.Places.{place_at, InBox, Nonnegative, place_box}
 
 abbrev pub answer_of : Result Place Refusal → Placed
 answer_of (Ok p) = placed (place_at p)
-answer_of (Err r) = unplaced (number_of r)
+answer_of (Err r) = unplaced (refusal_number r)
 
 -- its coordinates are small, and none is below 0
 pub record Answerable (p : Place) : Type 0 where

@@ -3,7 +3,7 @@ use Rattle.std.specs.Prelude.{ℕ, ◌≡◌, List, Result, MatchResult}
 use Rattle.lattice.specs.declared.Sizes.{Sizes}
 use Rattle.refusals.specs.declared.Refusal.{Refusal}
 use Rattle.filling.specs.Located.{locate, unplaced}
-use Rattle.refusals.specs.inner.Numbers.{number_of}
+use Rattle.refusals.specs.inner.Numbers.{refusal_number}
 use Rattle.places.specs.declared.stored.Stored.{Stored}
 
 -- they are those of the block, or every place is refused by the same number
@@ -11,4 +11,4 @@ abbrev pub Whole : Sizes → List ℕ → List ℕ → Result Stored Refusal →
 Whole s cuts state r =
     MatchResult r
     (λ t. (t.lattice.sizes ≡ s) × (t.cuts.now ≡ cuts) × (t.state.now ≡ state))
-    (λ e. (id : ℕ) → unplaced (number_of e) ≡ locate s cuts state id)
+    (λ e. (id : ℕ) → unplaced (refusal_number e) ≡ locate s cuts state id)

@@ -4,34 +4,34 @@ use Rattle.std.specs.Prelude.{ℕ}
 use Rattle.refusals.specs.declared.Refusal.{Refusal}
 use Rattle.refusals.specs.declared.Refusal.TheVariants.{Sizes, Samples, Cuts, State, Rim, Gap, Stray, Id, Move, File, Room, Unit, Band, Quads}
 
-unfoldable pub number_of : Refusal → ℕ
-number_of Sizes = 1
-number_of Samples = 2
-number_of Cuts = 3
-number_of State = 4
-number_of (Rim p) = 5
-number_of (Gap o) = 6
-number_of (Stray o) = 7
-number_of Id = 8
-number_of Move = 9
-number_of File = 11
-number_of Room = 12
-number_of Unit = 13
-number_of Band = 14
-number_of Quads = 15
+unfoldable pub refusal_number : Refusal → ℕ
+refusal_number Sizes = 1
+refusal_number Samples = 2
+refusal_number Cuts = 3
+refusal_number State = 4
+refusal_number (Rim p) = 5
+refusal_number (Gap o) = 6
+refusal_number (Stray o) = 7
+refusal_number Id = 8
+refusal_number Move = 9
+refusal_number File = 11
+refusal_number Room = 12
+refusal_number Unit = 13
+refusal_number Band = 14
+refusal_number Quads = 15
 
-unfoldable pub place_of : Refusal → ℕ
-place_of Sizes = 0
-place_of Samples = 0
-place_of Cuts = 0
-place_of State = 0
-place_of (Rim p) = p
-place_of (Gap o) = o
-place_of (Stray o) = o
-place_of Id = 0
-place_of Move = 0
-place_of File = 0
-place_of Room = 0
-place_of Unit = 0
-place_of Band = 0
-place_of Quads = 0
+unfoldable pub refusal_place : Refusal → ℕ
+refusal_place Sizes = 0
+refusal_place Samples = 0
+refusal_place Cuts = 0
+refusal_place State = 0
+refusal_place (Rim p) = p
+refusal_place (Gap o) = o
+refusal_place (Stray o) = o
+refusal_place Id = 0
+refusal_place Move = 0
+refusal_place File = 0
+refusal_place Room = 0
+refusal_place Unit = 0
+refusal_place Band = 0
+refusal_place Quads = 0

@@ -1,6 +1,6 @@
 -- The place call's refusals, then 13, then the point. Assumes nothing.
 use mathlib.Core.Path.{sym, ap, ◌∙◌}
-use Rattle.refusals.specs.inner.Numbers.{number_of}
+use Rattle.refusals.specs.inner.Numbers.{refusal_number}
 use Rattle.metric.specs.declared.Metric.{Metric}
 use Rattle.metric.specs.Millimetres.{unplaced_mm}
 use Rattle.metric.proofs.Cases.{own_refusal, unit_refusal, in_steps}
@@ -10,7 +10,7 @@ pub returns-then-p-ne0 : goal.returns-then-p-ne0
 returns-then-p-ne0 c = c.refused.ensures ∙ own_refusal c.args.unit c.args.p c.if-p-ne0.true
 
 pub returns-then-not-unit_fits : goal.returns-then-not-unit_fits
-unfolding number_of
+unfolding refusal_number
 returns-then-not-unit_fits c =
     c.refused-then-not-unit_fits.ensures
     ∙ ap unplaced_mm c.number.ensures

@@ -9,7 +9,7 @@ use Rattle.moving.specs.Block.{Block, Tabled, block_of}
 use Rattle.filling.specs.Check.{Accepted}
 use Rattle.filling.specs.Fill.{refused, fill}
 use Rattle.refusals.specs.declared.Refusal.{Refusal}
-use Rattle.refusals.specs.inner.Numbers.{number_of, place_of}
+use Rattle.refusals.specs.inner.Numbers.{refusal_number, refusal_place}
 use Rattle.labelling.specs.inner.Scans.{block_in}
 use Rattle.checks.specs.declared.CutTable.{CutTable}
 
@@ -17,7 +17,7 @@ abbrev pub block_of_table : CutTable → Block
 block_of_table t = block_in t.scan t.cuts.now
 
 pub record Refuses (band : ℕ) (b : Block) (n : ℕ) (e : Refusal) : Type 0 where
-  pub is : (state rows : List ℕ) → n ≡ length state → fill band b state rows ≡ refused state rows (number_of e) (place_of e)
+  pub is : (state rows : List ℕ) → n ≡ length state → fill band b state rows ≡ refused state rows (refusal_number e) (refusal_place e)
 
 -- sizes, band and lengths are taken
 pub record Taken (band : ℕ) (b : Block) (n : ℕ) (t : CutTable) : Type 0 where

@@ -23,17 +23,16 @@ stand-d-requires c =
 pub overflow_cast-result : goal.overflow_cast-result
 overflow_cast-result c =
     let i = c.args.i in
-    let is =
-    c.six_volume-v.ensures
-    ∙ corners_volume _ _ _ _ _ c.stand-a.ensures.result_value c.stand-b.ensures.result_value c.stand-c.ensures.result_value c.stand-d.ensures.result_value in
-    cast_fits c.six_volume-v.result c.six_volume-v.type_inv is (c.requires.measured.positive i c.requires.i_lt_count) (c.requires.measured.small i c.requires.i_lt_count)
+    let by = corners_volume _ _ _ _ _ c.stand-a.ensures.result_value c.stand-b.ensures.result_value in
+    let is = c.six_volume-v.ensures ∙ by c.stand-c.ensures.result_value c.stand-d.ensures.result_value in
+    let up = c.requires.measured.positive i c.requires.i_lt_count in
+    cast_fits c.six_volume-v.result c.six_volume-v.type_inv is up (c.requires.measured.small i c.requires.i_lt_count)
 
 pub returns : goal.returns
 returns c =
     let i = c.args.i in
-    let is =
-    c.six_volume-v.ensures
-    ∙ corners_volume _ _ _ _ _ c.stand-a.ensures.result_value c.stand-b.ensures.result_value c.stand-c.ensures.result_value c.stand-d.ensures.result_value in
+    let by = corners_volume _ _ _ _ _ c.stand-a.ensures.result_value c.stand-b.ensures.result_value in
+    let is = c.six_volume-v.ensures ∙ by c.stand-c.ensures.result_value c.stand-d.ensures.result_value in
     let up = c.requires.measured.positive i c.requires.i_lt_count in
     let small = c.requires.measured.small i c.requires.i_lt_count in record {
       result_value = cast_is c.six_volume-v.result c.six_volume-v.type_inv is up small;

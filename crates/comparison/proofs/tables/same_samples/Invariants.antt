@@ -8,4 +8,5 @@ use Rattle.comparison.proofs.tables.same_samples.Given as goal
 
 abbrev pub invariant-loop-i : goal.invariant-loop-i
 invariant-loop-i l =
-    same_samples (drop l.i l.samples) (samples_after l.samples l.bytes l.at l.i) ≡ same_samples l.samples (samples_from l.bytes l.at (length l.samples))
+    same_samples (drop l.i l.samples) (samples_after l.samples l.bytes l.at l.i)
+    ≡ same_samples l.samples (samples_from l.bytes l.at (length l.samples))

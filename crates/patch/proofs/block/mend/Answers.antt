@@ -6,20 +6,20 @@ use Rattle.lattice.specs.declared.Sizes.{Sizes}
 use Rattle.lattice.specs.Counts.{Sized, points}
 use Rattle.lattice.proofs.Bounds.{points_small}
 use Rattle.moving.specs.Label.{labels}
-use Rattle.refusals.specs.inner.Numbers.{number_of}
+use Rattle.refusals.specs.inner.Numbers.{refusal_number}
 use Rattle.patch.specs.inner.Mends.{Mends, table_due}
 use Rattle.patch.proofs.Whole.{refuses_1, refuses_14, refuses_2, refuses_3, whole}
 use Rattle.patch.proofs.block.mend.Goals as goal
 
 pub returns-in_default : goal.returns-in_default
-unfolding number_of
+unfolding refusal_number
 returns-in_default c =
     let a = c.args in
     let w = refuses_1 a.s a.band a.samples.now a.cuts.now refl (sym c.in_default.ensures.taken) in
     record { answer = w.0; cuts = w.1 }
 
 pub returns-then-not-band_fits : goal.returns-then-not-band_fits
-unfolding number_of
+unfolding refusal_number
 returns-then-not-band_fits c =
     let a = c.args in
     let h = subst Sized c.in-Some.ensures.same c.in-Some.lattice.sized in
@@ -27,7 +27,7 @@ returns-then-not-band_fits c =
     record { answer = w.0; cuts = w.1 }
 
 pub returns-then-samples-n : goal.returns-then-samples-n
-unfolding number_of
+unfolding refusal_number
 returns-then-samples-n c =
     let a = c.args in
     let e = c.in-Some.ensures.same in
@@ -41,7 +41,7 @@ pub overflow_mul-n : goal.overflow_mul-n
 overflow_mul-n c = let h = points_small _ c.in-Some.lattice.sized in omega (arith, c.point_count-n.ensures)
 
 pub returns-then-cuts-n : goal.returns-then-cuts-n
-unfolding number_of
+unfolding refusal_number
 returns-then-cuts-n c =
     let a = c.args in
     let e = c.in-Some.ensures.same in
@@ -57,9 +57,8 @@ returns c =
     let a = c.args in
     let e = c.in-Some.ensures.same in
     let n = c.point_count-n.ensures ∙ ap points e in
-    let m = subst
-    (λ (z : Sizes). Mends (table_due z (labels a.band a.samples.now) a.samples.now) 0 (7 * points z) a.cuts.now c.mend_table.new.cuts c.mend_table.result)
-    e c.mend_table.ensures in
+    let due = λ (z : Sizes). table_due z (labels a.band a.samples.now) a.samples.now in
+    let m = subst (λ (z : Sizes). Mends (due z) 0 (7 * points z) a.cuts.now c.mend_table.new.cuts c.mend_table.result) e c.mend_table.ensures in
     let w = whole a.s a.band a.samples.now a.cuts.now
     (sym c.band_fits.ensures ∙ c.if-not-band_fits.false)
     (record {

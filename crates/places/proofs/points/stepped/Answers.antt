@@ -17,7 +17,9 @@ pub overflow_mul-result : goal.overflow_mul-result
 overflow_mul-result c = mul_fits (held (nat_within 256 _ c.requires.t_bound.0) tt) (way-is c.requires.t_bound.1 c.requires.t_bound.2) tt
 
 pub overflow_add-result : goal.overflow_add-result
-overflow_add-result c = add_fits (held c.requires.within tt) (mul_is (held (nat_within 256 _ c.requires.t_bound.0) tt) (way-is c.requires.t_bound.1 c.requires.t_bound.2) tt) tt
+overflow_add-result c =
+    let way = mul_is (held (nat_within 256 _ c.requires.t_bound.0) tt) (way-is c.requires.t_bound.1 c.requires.t_bound.2) tt in
+    add_fits (held c.requires.within tt) way tt
 
 pub returns : goal.returns
 returns c =

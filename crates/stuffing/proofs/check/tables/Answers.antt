@@ -9,25 +9,25 @@ use Rattle.lattice.proofs.Sized.{lattice_fits}
 use Rattle.lattice.proofs.Bounds.{points_small}
 use Rattle.moving.specs.Block.{block_of}
 use Rattle.moving.proofs.Band.{fits_banded}
-use Rattle.refusals.specs.inner.Numbers.{number_of, place_of}
+use Rattle.refusals.specs.inner.Numbers.{refusal_number, refusal_place}
 use Rattle.stuffing.proofs.Refusals.{by_size, by_band, by_samples, by_cuts, by_state}
 use Rattle.stuffing.proofs.check.tables.Goals as goal
 
 pub returns-in_default : goal.returns-in_default
-unfolding number_of place_of
+unfolding refusal_number refusal_place
 returns-in_default c =
     let b = block_of c.args.sizes c.args.samples.now c.args.cuts.now in
     record { is = λ state rows l. by_size c.args.band b state rows (sym c.in_default.ensures.taken) }
 
 pub returns-then-not-band_fits : goal.returns-then-not-band_fits
-unfolding number_of place_of
+unfolding refusal_number refusal_place
 returns-then-not-band_fits c =
     let b = block_of c.args.sizes c.args.samples.now c.args.cuts.now in
     let fit = lattice_fits c.in-Some.lattice c.in-Some.ensures.same in
     record { is = λ state rows l. by_band c.args.band b state rows fit (sym c.band_fits.ensures ∙ c.if-not-band_fits.true) }
 
 pub returns-then-samples-n : goal.returns-then-samples-n
-unfolding number_of place_of
+unfolding refusal_number refusal_place
 returns-then-samples-n c =
     let b = block_of c.args.sizes c.args.samples.now c.args.cuts.now in
     let fit = lattice_fits c.in-Some.lattice c.in-Some.ensures.same in
@@ -39,7 +39,7 @@ pub overflow_mul-n : goal.overflow_mul-n
 overflow_mul-n c = omega (arith, c.point_count-n.ensures, points_small c.in-Some.lattice.sizes c.in-Some.lattice.sized)
 
 pub returns-then-cuts-n : goal.returns-then-cuts-n
-unfolding number_of place_of
+unfolding refusal_number refusal_place
 returns-then-cuts-n c =
     let b = block_of c.args.sizes c.args.samples.now c.args.cuts.now in
     let fit = lattice_fits c.in-Some.lattice c.in-Some.ensures.same in
@@ -52,7 +52,7 @@ returns-then-cuts-n c =
     }
 
 pub returns-then-state_len-n : goal.returns-then-state_len-n
-unfolding number_of place_of
+unfolding refusal_number refusal_place
 returns-then-state_len-n c =
     let b = block_of c.args.sizes c.args.samples.now c.args.cuts.now in
     let fit = lattice_fits c.in-Some.lattice c.in-Some.ensures.same in

@@ -19,13 +19,16 @@ overflow_mul-result-3 c =
 
 pub overflow_add-result : goal.overflow_add-result
 overflow_add-result c =
-    add_fits (scaled c.requires.in_box c.requires.in_box_2 along_y) (scaled c.requires.in_box c.requires.in_box_2 along_z) tt
+    let term = scaled c.requires.in_box c.requires.in_box_2 in
+    add_fits (term along_y) (term along_z) tt
 
 pub overflow_add-result-2 : goal.overflow_add-result-2
 overflow_add-result-2 c =
-    add_fits (scaled c.requires.in_box c.requires.in_box_2 along_x) (add_is (scaled c.requires.in_box c.requires.in_box_2 along_y) (scaled c.requires.in_box c.requires.in_box_2 along_z) tt) tt
+    let term = scaled c.requires.in_box c.requires.in_box_2 in
+    add_fits (term along_x) (add_is (term along_y) (term along_z) tt) tt
 
 pub returns : goal.returns
 unfolding dot
 returns c =
-    (add_is (scaled c.requires.in_box c.requires.in_box_2 along_x) (add_is (scaled c.requires.in_box c.requires.in_box_2 along_y) (scaled c.requires.in_box c.requires.in_box_2 along_z) tt) tt).eq
+    let term = scaled c.requires.in_box c.requires.in_box_2 in
+    (add_is (term along_x) (add_is (term along_y) (term along_z) tt) tt).eq

@@ -8,7 +8,8 @@ use Rattle.volume_report.proofs.files.measure.Goals as goal
 pub returns-clause-value : goal.returns-clause-value
 unfolding entry_with answer_of
 returns-clause-value c =
-    measured_is _ _ _ _ c.point_count-n.ensures c.args.block.end (answer_of (Ok c.args.filled)) c.add_up-v.ensures.sum_value c.add_up-v.ensures.smallest_value
+    measured_is _ _ _ _ c.point_count-n.ensures c.args.block.end (answer_of (Ok c.args.filled))
+    c.add_up-v.ensures.sum_value c.add_up-v.ensures.smallest_value
 
 pub returns-clause-small : goal.returns-clause-small
 unfolding entry_with

@@ -12,7 +12,7 @@ use Rattle.lattice.specs.Edge.{near, neighbour}
 use Rattle.lattice.specs.inner.Site.{index, site_of}
 use Rattle.lattice.proofs.Edge.{neighbour_lt}
 use Rattle.geometry.specs.Place.{rest}
-use Rattle.refusals.specs.inner.Numbers.{number_of}
+use Rattle.refusals.specs.inner.Numbers.{refusal_number}
 use Rattle.lines.proofs.Sites.{siting}
 use Rattle.triple.specs.inner.Places.{along}
 use Rattle.places.proofs.Decoded.{site_leads, site_rest, site_le}
@@ -27,7 +27,7 @@ leads : (s : Sizes) (o : ℕ) {q : Site} {k : ℕ} {n m : Option ℕ} → q ≡ 
 leads s o {q} is e f g = site_leads s (o / 7) q is (o % 7 + 1) (f ∙ ap (near s q.kind (index q)) e) g
 
 pub returns-then-t-eq0-clause-answer : goal.returns-then-t-eq0-clause-answer
-unfolding number_of
+unfolding refusal_number
 returns-then-t-eq0-clause-answer c =
     let t = c.args.self in
     elim c.then-t-eq0.branch [
@@ -40,7 +40,7 @@ pub neighbour-requires : goal.neighbour-requires
 neighbour-requires c = (siting c.args.self.lattice.sizes (c.args.o / 7) _ c.locate-q.ensures (omega arith)).0
 
 pub returns-in_default-clause-answer : goal.returns-in_default-clause-answer
-unfolding number_of
+unfolding refusal_number
 returns-in_default-clause-answer c =
     let t = c.args.self in
     cut_none t.lattice.sizes t.cuts.now t.state.now c.args.o
@@ -54,7 +54,7 @@ bounds-self-far c =
     omega (arith, c.args.self.state_long, neighbour_lt s (o / 7) (o % 7 + 1) _ (omega arith) (start_code (o % 7) (omega arith)) to)
 
 pub returns-then-says_zero-2-clause-answer : goal.returns-then-says_zero-2-clause-answer
-unfolding number_of
+unfolding refusal_number
 returns-then-says_zero-2-clause-answer c =
     let t = c.args.self in
     let to = leads t.lattice.sizes c.args.o c.locate-q.ensures c.at_start.ensures c.neighbour.ensures c.in-Some.is in

@@ -10,7 +10,7 @@ use Rattle.lattice.specs.Direction.{step}
 use Rattle.lattice.proofs.Bounds.{points_small}
 use Rattle.lattice.proofs.Edge.{neighbour_lt}
 use Rattle.moving.specs.Violation.{measured}
-use Rattle.refusals.specs.inner.Numbers.{number_of}
+use Rattle.refusals.specs.inner.Numbers.{refusal_number}
 use Rattle.lines.proofs.Sites.{siting, byte_lt}
 use Rattle.triple.specs.inner.Places.{along}
 use Rattle.places.proofs.Decoded.{site_leads, site_rest, site_le}
@@ -21,7 +21,7 @@ pub neighbour-requires : goal.neighbour-requires
 neighbour-requires c = (siting c.args.self.lattice.sizes c.args.p _ c.locate-q.ensures c.requires).0
 
 pub returns-in_default-clause-answer : goal.returns-in_default-clause-answer
-unfolding number_of
+unfolding refusal_number
 returns-in_default-clause-answer c =
     let s = c.args.self.lattice.sizes in
     moved_none s c.args.self.cuts.now c.args.p c.args.code.code
@@ -44,7 +44,7 @@ byte_at-t-requires c =
     omega (arith, c.edge_byte.ensures, byte_lt (points s) c.args.p code.code _ code.names_edge c.requires far)
 
 pub returns-then-is_none-clause-answer : goal.returns-then-is_none-clause-answer
-unfolding number_of
+unfolding refusal_number
 returns-then-is_none-clause-answer c =
     let s = c.args.self.lattice.sizes in
     let cuts = c.args.self.cuts.now in

@@ -1,6 +1,6 @@
 -- At rest, moved, or with a byte that is neither. Assumes nothing.
 use mathlib.Core.Path.{sym, ◌∙◌}
-use Rattle.refusals.specs.inner.Numbers.{number_of}
+use Rattle.refusals.specs.inner.Numbers.{refusal_number}
 use Rattle.triple.proofs.Box.{box_wider}
 use Rattle.places.proofs.Decoded.{site_rest, site_le}
 use Rattle.places.proofs.Answers.{rest_up, point-rests, point-moved, point-strange}
@@ -30,7 +30,7 @@ returns-in-Some-clause-answer c =
     ∙ point-moved t.lattice.sizes t.cuts.now t.state.now c.args.p _ c.in-Some.ensures.same c.in-Some.code.names_edge
 
 pub returns-in-None-clause-answer : goal.returns-in-None-clause-answer
-unfolding number_of
+unfolding refusal_number
 returns-in-None-clause-answer c =
     let t = c.args.self in
     point-strange t.lattice.sizes t.cuts.now t.state.now c.args.p (sym c.no_move.ensures ∙ c.if-no_move.false)
