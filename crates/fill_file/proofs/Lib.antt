@@ -1,5 +1,4 @@
 pub mod ATextExamples
-pub mod Examples
 pub mod Counted
 pub mod Outcome
 pub mod Buffer

@@ -1,5 +1,8 @@
--- Document 01, "Calls and refusals", and document 02's F-3, "A noise band", and F-9, "Band before rim": what filling answers and leaves in
--- the lent tables, for every input.
+-- Document 01, "Calls and refusals", and document 02's F-3, F-8 and F-9: what filling answers and leaves in the lent tables, for every
+-- input.
+--     moved_count, overwritten    M; a list over the first entries of a table
+--     refused, written            the outcome of a refusal, and that of a block that passes them
+--     fill_order, fill            the call's refusals, in their order; the call
 use Rattle.std.specs.Prelude.{ℕ, ◌*◌, List, [], ◌∷◌, ◌++◌, length, get_or, drop, leb, if◌then◌else◌}
 use Rattle.basics.specs.Lists.{count}
 use Rattle.moving.specs.Label.{labels}
@@ -21,17 +24,17 @@ pub record Outcome : Type 0 where
 unfoldable pub moved_count : List ℕ → ℕ
 moved_count state = count (λ p. is_move (get_or state p 0)) (length state)
 
--- the rows written over the first entries of a table; "entries beyond 4T stay untouched"
+-- a list over the first entries of a table, the others as they were; "entries beyond 4T stay untouched"
 unfoldable pub overwritten : List ℕ → List ℕ → List ℕ
 overwritten new old = new ++ drop (length new) old
 
 module _ (state rows : List ℕ) where
-  -- refusals 1 to 7 "write nothing" and carry T 0 and M 0; so does 14: "it writes nothing"
+  -- "Refusals 1 to 7 write nothing. .. T 0, M 0, and place 0 unless named"; F-3, of 14: "it writes nothing"
   abbrev pub refused : ℕ → ℕ → Outcome
   refused n at = record { answer = record { number = n; rows = 0; moved = 0; place = at }; state = state; rows = rows }
 
   -- "Filling answers 0 with T, the rows written, M, .. and place 0"; "After 10 the state table is filled, the row table is untouched, T and M
-  -- are those a longer table would have had"
+  -- are those a longer table would have had, and place is 0"
   unfoldable pub written : Reading → Outcome
   written m =
       let codes = state_of m in

@@ -26,8 +26,7 @@ module _ (s : Sizes) (cuts state : List ℕ) where
   reaches p c None = false
   reaches p c (Some q) = violates rule1 c (get_or cuts (edge_byte p c q) 0)
 
-  -- "9: the state byte is above 14, or its edge does not exist, has byte 0 or does not violate the point"; F-8: "Code 15 is believable, so
-  -- 9 begins above 15"
+  -- "9: .. its edge does not exist, has byte 0 or does not violate the point"; F-8: "Code 15 is believable, so 9 begins above 15"
   unfoldable pub believable : ℕ → Bool
   believable p =
       let c = get_or state p 0 in
@@ -43,7 +42,7 @@ module _ (s : Sizes) (cuts state : List ℕ) where
   unfoldable pub stands : ℕ → Bool
   stands o = stands_to (o / 7) (o % 7) (neighbour s (o / 7) (as_start (o % 7)))
 
-  -- the number of the refusal of an id among well-sized tables, or 0
+  -- the number of the refusal of an id among well-sized tables, or 0. "8: the id is 8N or more, or its edge does not exist .."
   unfoldable pub id_fault : ℕ → ℕ
   id_fault id =
       if ltb id (points s) then (if believable id then 0 else 9)

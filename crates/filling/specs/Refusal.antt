@@ -1,5 +1,5 @@
 -- Documents 01 and 02: refusals 1 to 9, 14 and 15, each a test with its number, and how a call goes through its own.
--- 10 stands in Fill and in Nodes, 11 and 12 in Format, 13 in Millimetres; the measures call asks its 1 itself.
+-- 10 stands in Fill and in Nodes, 11 and 12 in Format, 13 in Millimetres; measures and reading ask their 1 themselves.
 --     Refusal, first_of          a refusal; the first of a list that applies
 --     unless, found              one that comes unless a test passes; one that a search looks for
 --     wrong_sizes .. wrong_id    1, 2, 3, 4, 5, 6 or 7, 14, 15, 8 or 9
@@ -67,7 +67,3 @@ wrong_rows rows = unless (eqb (length rows % 4) 0) 15
 -- 8 "corner" or 9 "code": the fault that an id has (`id_fault` in Located), 0 for none
 abbrev pub wrong_id : ℕ → Refusal
 wrong_id fault = unless (eqb fault 0) fault
-
--- the same of the first entry of a row table that has one, F-6: "the place is that entry's index from 0"
-abbrev pub wrong_entry : List ℕ → ℕ → ℕ → Refusal
-wrong_entry rows fault first = found (length rows) fault first

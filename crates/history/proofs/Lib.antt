@@ -12,4 +12,3 @@ pub mod F9Raw
 pub mod F9BandFirst
 pub mod F9Mending
 pub mod F9Cases
-pub mod F9Turns

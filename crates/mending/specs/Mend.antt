@@ -1,9 +1,10 @@
 -- Document 02, F-4, "Mend a cut table", and F-9: "The mending tool takes the band too and follows the same labels": what mending answers and
 -- leaves in the lent table, for every input.
---     size_of, rounded, held     the byte between two samples, by their sizes
---     fault_at                   what filling would say of a byte
---     mended_byte, faults        what becomes of a byte, and how many are at fault
---     mended, mend_order, mend   the call
+--     size_of, rounded, held, byte_to   the byte between two samples, by their sizes
+--     fault_at                          what filling would say of a byte by itself
+--     mended_byte, faults               what becomes of a byte, and how many are at fault
+--     Outcome, mended, refused          the outcome of a block that passes the refusals, and of a refusal
+--     mend_order, mend                  the call's refusals, in their order; the call
 use Rattle.std.specs.Prelude.{ℕ, ◌+◌, ◌*◌, ◌/◌, ◌%◌, List, [], ◌∷◌, map, ℤ, pos, nat_abs, get_or, ltb, eqb, if◌then◌else◌, Option, Some, None}
 use Rattle.basics.specs.Lists.{below, count}
 use Rattle.lattice.specs.Counts.{points}
@@ -53,7 +54,7 @@ module _ (label : ℕ → Label) (b : Block) where
       else if eqb (fault_at o) 7 then 0
       else get_or b.cuts o 0
 
-  -- how many bytes filling would refuse with n: "the number of offsets where the old table breaks that rule"
+  -- how many bytes have fault n: "the number of offsets where the old table breaks that rule"
   unfoldable pub faults : ℕ → ℕ
   faults n = count (λ o. eqb (fault_at o) n) (7 * points b.sizes)
 
@@ -71,7 +72,9 @@ refused cuts n = record { answer = record { number = n; filled = 0; cleared = 0 
 
 -- "Checks: 1, 2, 3"; F-9: "14 comes directly after 1 in the mending tool as well"
 abbrev pub mend_order : ℕ → Block → List Refusal
-mend_order band b = wrong_sizes b.sizes ∷ wrong_band band ∷ wrong_samples b.sizes b.samples ∷ wrong_cuts b.sizes b.cuts ∷ []
+mend_order band b =
+    let s = b.sizes in
+    wrong_sizes s ∷ wrong_band band ∷ wrong_samples s b.samples ∷ wrong_cuts s b.cuts ∷ []
 
 unfoldable pub mend : ℕ → Block → Outcome
 mend band b = first_of (λ n at. refused b.cuts n) (mend_order band b) (mended (labels band b.samples) b)

@@ -1,7 +1,7 @@
 -- Document 02, F-6, "A node table": what the node call answers and leaves in the lent tables, for every input.
 --     used, node_number              the ids in use, and the number of each
---     node_of, node, node_table       what the node table holds
---     first_unplaced                 the first entry whose id has no place
+--     node_of, node, node_table      what the node table holds
+--     node_count, first_unplaced     how many nodes there are; the first entry whose id has no place
 --     number_order                   the call's refusals, in their order
 --     Outcome, refused, numbered, numbered_in, number    the call
 use Rattle.std.specs.Prelude.{ℕ, ◌*◌, Bool, false, not, ◌||◌, List, [], ◌∷◌, map, length, get_or, leb, eqb, if◌then◌else◌}
@@ -9,7 +9,7 @@ use Rattle.basics.specs.Lists.{gather, below, lowest, count}
 use Rattle.lattice.specs.declared.Sizes.{Sizes}
 use Rattle.lattice.specs.Counts.{points}
 use Rattle.filling.specs.declared.Placed.{Placed}
-use Rattle.filling.specs.Refusal.{Refusal, first_of, wrong_sizes, wrong_cuts, wrong_state, wrong_rows, wrong_entry}
+use Rattle.filling.specs.Refusal.{Refusal, first_of, wrong_sizes, wrong_cuts, wrong_state, wrong_rows, found}
 use Rattle.filling.specs.Fill.{overwritten}
 use Rattle.filling.specs.Located.{id_fault, locate}
 use Rattle.numbering.specs.declared.Numbered.{Numbered}
@@ -50,13 +50,13 @@ module _ (s : Sizes) (cuts state rows : List ℕ) where
   unfoldable pub first_unplaced : ℕ
   first_unplaced = lowest (λ i. not (eqb (id_fault s cuts state (get_or rows i 0)) 0)) (length rows)
 
-  -- "Checks: 1, 3, 4, then 15 .. then 8 or 9, then 10"; "8 or 9 as the place call would", "the place is that entry's index from 0, and every
+  -- "Checks: 1, 3, 4, then 15 .., then 8 or 9, then 10"; "8 or 9 as the place call would", "the place is that entry's index from 0, and every
   -- other answer has place 0"
   abbrev pub number_order : List Refusal
   number_order =
       let first = first_unplaced in
       wrong_sizes s ∷ wrong_cuts s cuts ∷ wrong_state s state ∷ wrong_rows rows
-      ∷ wrong_entry rows (id_fault s cuts state (get_or rows first 0)) first ∷ []
+      ∷ found (length rows) (id_fault s cuts state (get_or rows first 0)) first ∷ []
 
   module _ (nodes : List ℕ) where
     -- "A refusal changes neither table"

@@ -4,7 +4,7 @@
 ghost use Rattle.std.specs.Prelude.{◌≡◌};
 ghost use Rattle.refusals.specs.inner.Numbers.{refusal_number, refusal_place};
 
-// A refusal that is found at a place holds it: a point, the offset of a byte, an entry.
+// A refusal that is found at a place holds it: a point, the offset of a byte.
 #[derive(Clone, Copy)]
 pub enum Refusal {
     // a size that is not taken

@@ -1,4 +1,4 @@
--- The examples' files again, each with the text that the program prints for it.
+-- Document 01's given case as a file, changes of it, and a file for each of the reader's refusals, with the text that the program prints.
 use Rattle.std.specs.Prelude.{ℕ, List, [], ◌∷◌, ◌++◌, pos}
 use Prim.Native.String.{String}
 use Rattle.casebook.specs.cases.Given.{unchanged, byte_at, sample_at, changed}
