@@ -2,7 +2,7 @@
 --     rim_refused, cut_refused     a rim point at fault, or a byte
 --     accept                      none: the block is accepted
 --     at_rim, at_cut, passed      the same for a cut table that the code holds
-use Prim.Native.Nat.{ℕ, suc, ◌*◌, ◌≤◌, ◌<◌}
+use Prim.Native.Nat.{ℕ, ◌*◌, ◌≤◌, ◌<◌}
 use native.Mathlib.Omega.{arith}
 use mathlib.Core.Path.{◌≡◌, refl, sym, ap, subst, ◌∙◌}
 use mathlib.Core.Bool.{Bool, true, false, not}
@@ -10,8 +10,8 @@ use mathlib.Core.List.{List}
 use lib.ListN.{length}
 use lib.Dec.{eqb, ltb}
 use borrow.Author.Tests.{ltb-true, eqb-true, not-false}
-use Rattle.std.proofs.Common.{Option, Some, None, Result, Ok, Err}
-use Rattle.std.specs.Prelude.{if◌then◌else◌, unwrap_or}
+use Rattle.std.proofs.Common.{Ok, Err}
+use Rattle.std.specs.Prelude.{if◌then◌else◌}
 use Rattle.basics.proofs.Search.{lowest_none}
 use Rattle.lattice.specs.Counts.{points}
 use Rattle.lattice.proofs.Sized.{sized_fits}
@@ -27,7 +27,7 @@ use Rattle.refusals.specs.inner.Numbers.{refusal_number, refusal_place}
 use Rattle.checks.specs.declared.CutTable.{CutTable}
 use Rattle.checks.specs.declared.Fault.{Fault}
 use Rattle.checks.specs.declared.Fault.TheVariants.{Gap, Stray}
-use Rattle.checks.specs.inner.Faults.{fault_number, fault_offset, number_of, fault_place, CutAnswer}
+use Rattle.checks.specs.inner.Faults.{fault_number, fault_offset, CutAnswer}
 use Rattle.stuffing.specs.inner.Checks.{block_of_table, Refuses, Taken}
 use Rattle.stuffing.proofs.Refusals.{by_rim, by_byte_law}
 

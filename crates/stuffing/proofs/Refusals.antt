@@ -1,6 +1,6 @@
 -- Filling's refusals, each from the plain facts that lead to it, in the papers' order. Assumes nothing.
 use Prim.Native.Nat.{ℕ, ◌*◌, ◌≤◌, ◌<◌}
-use mathlib.Core.Path.{◌≡◌, sym, ap, subst}
+use mathlib.Core.Path.{◌≡◌, sym, ap}
 use mathlib.Core.Bool.{true, false}
 use mathlib.Core.List.{List}
 use lib.ListN.{length}
@@ -8,7 +8,6 @@ use borrow.Author.Tests.{eq-eqb, ne_eqb, lt-ltb, le-ltb}
 use Rattle.lattice.specs.Counts.{sizes_fit, points}
 use Rattle.moving.specs.Label.{band_fits}
 use Rattle.moving.specs.Block.{Block, reading_of}
-use Rattle.filling.specs.declared.Filled.{Filled}
 use Rattle.filling.specs.Fill.{Outcome, refused, written, fill}
 use Rattle.filling.proofs.Accepted.{fault_in, rim_of, cut_of}
 use Rattle.stuffing.specs.inner.Fills.{Fills}

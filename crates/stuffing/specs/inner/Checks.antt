@@ -5,7 +5,7 @@
 use Rattle.std.specs.Prelude.{ℕ, ◌≡◌, ◌≤◌, List, length, Result, MatchResult}
 use Rattle.lattice.specs.Counts.{points}
 use Rattle.moving.specs.Label.{band_most}
-use Rattle.moving.specs.Block.{Block, Tabled, block_of}
+use Rattle.moving.specs.Block.{Block}
 use Rattle.filling.specs.Check.{Accepted}
 use Rattle.filling.specs.Fill.{refused, fill}
 use Rattle.refusals.specs.declared.Refusal.{Refusal}

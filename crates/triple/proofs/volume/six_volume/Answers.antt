@@ -6,7 +6,6 @@ use Rattle.geometry.specs.Volume.{difference, cross, dot, triple, six_volume}
 use Rattle.triple.specs.declared.Place.{Place}
 use Rattle.triple.specs.inner.Places.{place_at}
 use Rattle.triple.proofs.Box.{result_is}
-use borrow.Author.Rules.{rules}
 use Rattle.triple.proofs.volume.six_volume.Goals as goal
 
 pub returns : goal.returns
