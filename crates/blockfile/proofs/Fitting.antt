@@ -9,7 +9,7 @@ use borrow.Author.Tests.{le-leb}
 use Rattle.basics.proofs.Test.{&&-l, &&-r, T_true, true_T}
 use Rattle.blockfile.specs.declared.Run.{Run}
 use Rattle.blockfile.specs.Format.{run_fits, fit, lengths, two_at, run_at, runs_from}
-use Rattle.blockfile.proofs.Left.{runs_after, runs_all, runs_left, no_runs_left}
+use Rattle.blockfile.proofs.Left.{runs_after, runs_left, no_runs_left}
 
 -- what a run that fits says in numbers
 pub record RunFits (total least : ℕ) (r : Run) : Type 0 where
@@ -64,9 +64,6 @@ pub record Fitted (bytes : List ℕ) (head count total least i : ℕ) : Type 0 w
   pub same : fit total least (runs_after bytes head count i) ≡ fit total 0 (runs_from bytes head count)
 
 module _ {bytes : List ℕ} {head count total : ℕ} where
-  pub fitted_first : Fitted bytes head count total 0 0
-  fitted_first = record { at_most = omega arith; same = ap (fit total 0) (runs_all bytes head count) }
-
   module _ {least i : ℕ} (w : Fitted bytes head count total least i) where
     pub fitted_next : {r : Run} → i < count → r ≡ run_at bytes (head + 6 * i) → run_fits total least r ≡ true
         → Fitted bytes head count total (r.offset + r.length + 1) (i + 1)
@@ -89,10 +86,6 @@ pub record Summed (bytes : List ℕ) (head count sum i : ℕ) : Type 0 where
   pub same : sum + lengths (runs_after bytes head count i) ≡ lengths (runs_from bytes head count)
 
 module _ {bytes : List ℕ} {head count : ℕ} where
-  pub summed_first : Summed bytes head count 0 0
-  summed_first =
-      record { at_most = omega arith; small = omega arith; same = omega (arith, ap lengths (runs_all bytes head count)) }
-
   module _ {sum i : ℕ} (w : Summed bytes head count sum i) where
     pub summed_next : {l : ℕ} → i < count → l ≡ two_at bytes (head + 6 * i + 4) → l < 65536 → Summed bytes head count (sum + l) (i + 1)
     unfolding lengths run_at

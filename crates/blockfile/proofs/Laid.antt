@@ -11,7 +11,7 @@ use lib.Seq.{take_all, sets-eq, sets, length-sets, length-take-le}
 use Rattle.basics.proofs.Stores.{sets_append}
 use Rattle.blockfile.specs.declared.Run.{Run}
 use Rattle.blockfile.specs.Format.{fit, lengths, run_at, runs_from, cuts_from}
-use Rattle.blockfile.proofs.Left.{runs_after, runs_all, runs_left, no_runs_left}
+use Rattle.blockfile.proofs.Left.{runs_after, runs_left, no_runs_left}
 use Rattle.blockfile.proofs.Fitting.{RunFits, fit_head, fit_tail, fit_earlier}
 
 -- a run: the gap before it is cleared, and its bytes are copied
@@ -69,18 +69,6 @@ pub record Laid (bytes : List ℕ) (head count first total : ℕ) (table₀ tabl
       ≡ sets table₀ 0 (cuts_from bytes total 0 first (runs_from bytes head count))
 
 module _ {bytes : List ℕ} {head count first total : ℕ} {table₀ : List ℕ} where
-  pub laid_first : first + lengths (runs_from bytes head count) ≤ length bytes → fit total 0 (runs_from bytes head count) ≡ true
-      → Laid bytes head count first total table₀ table₀ 0 first 0
-  laid_first h e =
-      record {
-        at_most = omega arith;
-        low = omega arith;
-        long = refl;
-        there = rw (runs_all bytes head count) h;
-        fits = rw (runs_all bytes head count) e;
-        same = rw (runs_all bytes head count) refl;
-      }
-
   module _ {table : List ℕ} {k at i : ℕ} (w : Laid bytes head count first total table₀ table k at i) where
     -- what the next run is like
     step : {r : Run} → i < count → r ≡ run_at bytes (head + 6 * i) → runs_after bytes head count i ≡ r ∷ runs_after bytes head count (i + 1)

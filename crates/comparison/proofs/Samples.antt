@@ -43,12 +43,6 @@ module _ (xs : List ℤ) (bytes : List ℕ) (at : ℕ) where
   abbrev pub samples_after : ℕ → List ℤ
   samples_after i = samples_from bytes (at + 2 * i) (length xs - i)
 
-  pub samples_all : same_samples xs (samples_after 0) ≡ same_samples xs (samples_from bytes at (length xs))
-  samples_all =
-      let a : at + 2 * 0 ≡ at = omega arith in
-      let b : length xs - 0 ≡ length xs = omega arith in
-      rw (a, b)
-
   entry_left : (i : ℕ) → i < length xs → drop i xs ≡ get_or xs i (pos 0) ∷ drop (i + 1) xs
   entry_left i h = rw (add-one i) (drop-cons xs i (pos 0) h)
 

@@ -15,12 +15,6 @@ module _ (xs bytes : List ℕ) (at : ℕ) where
   abbrev pub ids_after : ℕ → List ℕ
   ids_after i = ids_from bytes (at + 2 * i) (length xs - i)
 
-  pub ids_all : same xs (ids_after 0) ≡ same xs (ids_from bytes at (length xs))
-  ids_all =
-      let a : at + 2 * 0 ≡ at = omega arith in
-      let b : length xs - 0 ≡ length xs = omega arith in
-      rw (a, b)
-
   ids_left : (i : ℕ) → i < length xs → ids_after i ≡ two_at bytes (at + 2 * i) ∷ ids_after (i + 1)
   unfolding ids_from
   ids_left i h =

@@ -12,7 +12,7 @@ use mathlib.Core.List.{List, [], map}
 use lib.Dec.{T, eqb}
 use lib.ListN.{length, get_or}
 use borrow.Author.Tests.{eq-eqb, eqb-true, eqb-false, lt-ltb, le-ltb, le-leb}
-use Rattle.std.specs.Prelude.{Option, None, Some, MatchOption, IsSome, Ok, Err}
+use Rattle.std.specs.Prelude.{Option, Some, MatchOption, Ok, Err}
 use Rattle.basics.proofs.Test.{F-false}
 use Rattle.lattice.specs.declared.Sizes.{Sizes}
 use Rattle.lattice.specs.Counts.{points, sizes_fit, Sized}
@@ -132,13 +132,6 @@ module _ (st : Stored) where
     quads_said nodes n =
         says sizes cuts state rows nodes
         (rows_refused sizes cuts state rows nodes st.lattice.sized st.cuts_long st.state_long n) refl refl refl
-
--- the first refused entry is there where some entry is refused
-pub some_refused : (st : Stored) (rows : List ℕ) (r : Option RefusedEntry)
-    → MatchOption r (first st rows ≡ length rows) (λ e. FirstRefused st rows e.entry e.refusal) → first st rows < length rows
-    → IsSome r
-some_refused st rows None e l = absurd (omega arith)
-some_refused st rows (Some e) f l = refl
 
 pub refused_entry : (st : Stored) (rows : List ℕ) {r : Option RefusedEntry} {e : RefusedEntry}
     → MatchOption r (first st rows ≡ length rows) (λ e. FirstRefused st rows e.entry e.refusal) → r ≡ Some e

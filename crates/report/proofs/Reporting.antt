@@ -1,13 +1,13 @@
 -- The turns of `run`: what was written so far are the first lines of a report whose other lines come of what is left of the input
 -- (`Turns`). Assumes nothing.
---     begins, goes_on               before the first turn, and after one that goes on
+--     goes_on                       after a turn that goes on
 --     ends_full, ends_over, ends_last    the three ways to end: all lines of the report are written
 use Rattle.std.proofs.Common.{◌≡◌, ℕ, ◌<◌, ◌≤◌, List, [], ◌∷◌, ◌++◌, take, length, true, false, Bool, Result, Ok, Err, Option}
 use Rattle.std.proofs.Common.{None, Some, OnOk, IfSome, refl, sym, ap, subst, ◌∙◌, arith, append_assoc, append-nil}
 use Rattle.std.specs.List.{concat}
 use Rattle.std.proofs.lemmas.List.Folds.{concat-append}
 use Rattle.std.specs.Io.KnownBytes.{Appends, Consumes, IsAtEnd}
-use Rattle.std.proofs.KnownBytes.{Appends-nil, Appends-trans}
+use Rattle.std.proofs.KnownBytes.{Appends-trans}
 use Rattle.blockfile.specs.inner.Needs.{bench_longest, HeldIn, Held}
 use Rattle.volume_report.specs.declared.Tally.{Tally}
 use Rattle.volume_report.specs.program.Report.{entry_of, line_of, counted, last_line, is_last, begun, report, most_files}
@@ -28,13 +28,6 @@ pub record Reporting (first left old new : Option (List ℕ)) (t : Tally) : Type
 -- what the contract says that was written
 abbrev Whole : Option (List ℕ) → Option (List ℕ) → Option (List ℕ) → Type 0
 Whole first old new = IfSome first (λ bytes. Appends old new (concat (report bytes)))
-
-nothing_yet : (first : Option (List ℕ)) (t : Tally) → t ≡ begun → Completes first first t []
-nothing_yet None t e = tt
-nothing_yet (Some bytes) t e = (bytes, refl, λ rest w. subst (λ (u : Tally). Turns u bytes rest) e w)
-
-pub begins : (first old : Option (List ℕ)) (t : Tally) → t ≡ begun → Reporting first first old old t
-begins first old t e = record { lines = []; written = Appends-nil old; completes = nothing_yet first t e }
 
 one_line : (old new : Option (List ℕ)) (l : List ℕ) → Appends old new l → Appends old new (concat (l ∷ []))
 one_line old new l a = subst (Appends old new) (sym (append-nil l)) a

@@ -1,7 +1,7 @@
 -- What the hits say of the row table, entry by entry and part by part.
 --     Tells, tells_none, tells_more, tells_all            the hits of the entries below i: at the start, a turn, the end
 --     tells_marked, tells_known                           the turn, where the slot is marked now, or was before
---     Spreads, spreads_none, spreads_all                  the hits of the first parts: at the start, at the end
+--     Spreads, spreads_all                                the hits of the first parts, at the end
 --     spreads_taken, beyond_taken                         a part's hits; an id past the last window in a part
 -- Assumes nothing.
 use Prim.Native.Nat.{ℕ, ◌+◌, ◌-◌, ◌*◌, ◌/◌, ◌≤◌, ◌<◌}
@@ -70,9 +70,6 @@ pub record Spreads (hits rows : List ℕ) (p : ℕ) : Type 0 where
   pub inside : (j : ℕ) → j < length rows → j < part * p → get_or rows j 0 < windows * window
   pub hit : (j : ℕ) → j < length rows → j < part * p
       → marked hits (slot (get_or rows j 0 / window) (j / part)) ≡ true
-
-pub spreads_none : (hits rows : List ℕ) {p : ℕ} → p ≡ 0 → Spreads hits rows p
-spreads_none hits rows z = record { inside = λ j h l. absurd (omega arith); hit = λ j h l. absurd (omega arith) }
 
 pub spreads_all : {hits rows : List ℕ} {p : ℕ} → Spreads hits rows p → length rows ≤ part * p
     → Spread hits rows (length rows)

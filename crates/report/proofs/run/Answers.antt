@@ -1,11 +1,8 @@
 use Rattle.std.proofs.Common.{arith, rules, subst, sym, ◌∙◌}
 use Rattle.std.specs.Io.KnownBytes.{Appends}
 use Rattle.volume_report.proofs.Counted.{counts_more, more_come}
-use Rattle.report.proofs.Reporting.{holds, begins, goes_on, ends_full, ends_over, ends_last}
+use Rattle.report.proofs.Reporting.{holds, goes_on, ends_full, ends_over, ends_last}
 use Rattle.report.proofs.run.Goals as goal
-
-pub loop-bytes-init : goal.loop-bytes-init
-loop-bytes-init g c = begins _ _ _ c.begin-totals.ensures
 
 pub returns-then-held-eq0 : goal.returns-then-held-eq0
 returns-then-held-eq0 g c =

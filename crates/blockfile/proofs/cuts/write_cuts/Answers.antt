@@ -7,15 +7,8 @@ use lib.Seq.{sets, length-take-le}
 use borrow.Rule.Slice.PartMut.{put_mid}
 use Rattle.blockfile.proofs.Laid.{zeros_put, bytes_put}
 use Rattle.blockfile.proofs.cuts.write_cuts.Goals.{After-fill}
-use Rattle.blockfile.proofs.Laid.{laid_first, next_fits, next_there, cleared_long, laid_next, laid_all}
+use Rattle.blockfile.proofs.Laid.{next_fits, next_there, cleared_long, laid_next, laid_all}
 use Rattle.blockfile.proofs.cuts.write_cuts.Goals as goal
-
-pub loop-i-init : goal.loop-i-init
-loop-i-init c = laid_first c.requires.count_in_bounds c.requires.count_value
-
-pub overflow_add-next : goal.overflow_add-next
-overflow_add-next c =
-    omega (arith, next_there c.loop-i.invariant c.loop-i-test.true c.run_at-r.ensures)
 
 pub slice_bounds-fill-count : goal.slice_bounds-fill-count
 slice_bounds-fill-count c =

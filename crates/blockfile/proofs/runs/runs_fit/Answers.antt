@@ -1,10 +1,7 @@
 -- After i runs, all of which fit, the rest decides. Assumes nothing.
 use mathlib.Core.Path.{sym, ◌∙◌}
-use Rattle.blockfile.proofs.Fitting.{fitted_first, fitted_next, fitted_not, fitted_all}
+use Rattle.blockfile.proofs.Fitting.{fitted_next, fitted_not, fitted_all}
 use Rattle.blockfile.proofs.runs.runs_fit.Goals as goal
-
-pub loop-i-init : goal.loop-i-init
-loop-i-init c = fitted_first
 
 pub returns-then-not-run_fits : goal.returns-then-not-run_fits
 returns-then-not-run_fits c =

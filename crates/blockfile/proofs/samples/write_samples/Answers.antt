@@ -1,8 +1,7 @@
 -- What is left of the samples, written, gives all of them. Assumes nothing.
 use Prim.Native.Nat.{◌<◌}
-use mathlib.Core.Path.{refl, sym, ap, ◌∙◌}
+use mathlib.Core.Path.{sym, ap, ◌∙◌}
 use native.Mathlib.Omega.{arith}
-use native.Mathlib.Nat.{sub-zero}
 use mathlib.Core.List.{append-nil}
 use lib.ListN.{take, length-set, drop_of_length-le}
 use lib.Seq.{length-take-le}
@@ -13,9 +12,6 @@ use Rattle.blockfile.specs.Format.{signed}
 use Rattle.blockfile.proofs.Left.{samples_left, no_samples_left}
 use Rattle.blockfile.proofs.Outcome.{samples_long}
 use Rattle.blockfile.proofs.samples.write_samples.Goals as goal
-
-pub loop-i-init : goal.loop-i-init
-loop-i-init c = (length-take-le _ _ (omega arith), rw sub-zero refl)
 
 pub loop-i-preserved : goal.loop-i-preserved
 loop-i-preserved c =

@@ -1,11 +1,8 @@
 -- After i ids that stand in the table the rest decides. Assumes nothing.
 use mathlib.Core.Path.{◌∙◌}
 use native.Mathlib.Omega.{arith}
-use Rattle.comparison.proofs.Turns.{ids_all, ids_next, ids_differ, ids_end}
+use Rattle.comparison.proofs.Turns.{ids_next, ids_differ, ids_end}
 use Rattle.comparison.proofs.tables.same_ids.Goals as goal
-
-pub loop-i-init : goal.loop-i-init
-loop-i-init c = ids_all _ _ _
 
 pub returns-then-id-from : goal.returns-then-id-from
 returns-then-id-from c =

@@ -10,14 +10,10 @@ use mir.Syntax.{w16}
 use mir.Val.{of_z}
 use Rattle.comparison.specs.program.Same.{same_sample}
 use Rattle.blockfile.specs.Format.{two_at, signed}
-use Rattle.comparison.proofs.Samples.{bits_test, samples_all, samples_next, samples_differ, samples_end}
+use Rattle.comparison.proofs.Samples.{bits_test, samples_next, samples_differ, samples_end}
 use Rattle.comparison.proofs.tables.same_samples.Goals.{After-signed}
 use Rattle.comparison.proofs.tables.same_samples.Goals as goal
 
-pub loop-i-init : goal.loop-i-init
-loop-i-init c = samples_all _ _ _
-
--- a sample and the one that is stated, by their bits
 bits : (c : After-signed) → eqb (of_z w16 (get_or c.args.samples.now c.loop-i.i (pos 0))) (of_z w16 c.signed.result)
     ≡ same_sample (get_or c.args.samples.now c.loop-i.i (pos 0)) c.signed.result
 bits c = bits_test _ _ (record { sfits = omega arith }) (record { sfits = c.signed.type_inv })

@@ -1,9 +1,6 @@
 -- A sample is above the band where its label is plus: both are cast to one type. Assumes nothing.
-use Rattle.labelling.proofs.Labels.{sample_fits, plus_test}
+use Rattle.labelling.proofs.Labels.{plus_test}
 use Rattle.labelling.proofs.label.is_plus.Goals as goal
-
-pub overflow_cast-result-2 : goal.overflow_cast-result-2
-overflow_cast-result-2 c = sample_fits _ c.ranges.a
 
 pub returns : goal.returns
 returns c = plus_test _ _ c.ranges.band.fits c.ranges.a

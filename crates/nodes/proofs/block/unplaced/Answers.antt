@@ -1,9 +1,6 @@
 -- The first entry that is refused is there. Assumes nothing.
-use Rattle.nodes.proofs.Answering.{some_refused, refused_entry, unplaced_said}
+use Rattle.nodes.proofs.Answering.{refused_entry, unplaced_said}
 use Rattle.nodes.proofs.block.unplaced.Goals as goal
-
-pub unwrap-requires : goal.unwrap-requires
-unwrap-requires c = some_refused c.args.stored c.args.rows.now _ c.first_unplaced.ensures c.requires
 
 pub returns : goal.returns
 returns c =

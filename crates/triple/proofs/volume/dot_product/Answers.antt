@@ -1,21 +1,9 @@
 -- Every product and every sum stays in its box. Assumes nothing.
 use Rattle.lattice.specs.Axis.{along_x, along_y, along_z}
 use Rattle.geometry.specs.Volume.{dot}
-use Rattle.triple.proofs.Box.{at, add_is, mul_fits, add_fits}
+use Rattle.triple.proofs.Box.{add_is, add_fits}
 use Rattle.triple.proofs.Terms.{scaled}
 use Rattle.triple.proofs.volume.dot_product.Goals as goal
-
-pub overflow_mul-result : goal.overflow_mul-result
-overflow_mul-result c =
-    mul_fits (at c.requires.in_box tt along_x) (at c.requires.in_box_2 tt along_x) tt
-
-pub overflow_mul-result-2 : goal.overflow_mul-result-2
-overflow_mul-result-2 c =
-    mul_fits (at c.requires.in_box tt along_y) (at c.requires.in_box_2 tt along_y) tt
-
-pub overflow_mul-result-3 : goal.overflow_mul-result-3
-overflow_mul-result-3 c =
-    mul_fits (at c.requires.in_box tt along_z) (at c.requires.in_box_2 tt along_z) tt
 
 pub overflow_add-result : goal.overflow_add-result
 overflow_add-result c =

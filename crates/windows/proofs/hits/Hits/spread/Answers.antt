@@ -1,15 +1,7 @@
 -- The loop's invariant: the entries of the parts gone over are in windows and have their hits. Assumes nothing.
-use Rattle.std.proofs.Common.{rules}
-use Rattle.windows.proofs.Parts.{left_none, left_more, taken}
-use Rattle.windows.proofs.Spreading.{spreads_none, spreads_taken}
+use Rattle.windows.proofs.Parts.{left_more, taken}
+use Rattle.windows.proofs.Spreading.{spreads_taken}
 use Rattle.windows.proofs.hits.Hits.spread.Goals as goal
-
-pub loop-p-init : goal.loop-p-init
-loop-p-init c =
-    record {
-      done = spreads_none _ _ (search rules);
-      left = left_none (search rules) (search rules) (search rules);
-    }
 
 pub loop-p-preserved : goal.loop-p-preserved
 loop-p-preserved c =
