@@ -14,6 +14,14 @@ use Rattle.ranges.specs.inner.Blank.{Blank, Joint}
 joined : (bytes : List ℕ) (from middle to : ℕ) → Blank bytes from middle → Blank bytes middle to → Blank bytes from to
 joined bytes from middle to v w o a b = elim (lt_or o middle) [ inl u ↦ v o a u | inr u ↦ w o u b ]
 
+-- a byte by itself
+pub one : (bytes : List ℕ) (o : ℕ) → Joint bytes o 1 (get_or bytes o 0)
+one bytes o =
+    record {
+      passed = λ e j a b. let f : j ≡ o = omega arith in ap (λ (k : ℕ). get_or bytes k 0) f ∙ e;
+      passes = λ w. w o (omega arith) (omega arith);
+    }
+
 -- two halves: their answers are both 0 exactly when the answer of the whole is
 module _ {bytes : List ℕ} {o at n m low high whole : ℕ} (e : at ≡ o + n) (f : m ≡ n + n) (v : Joint bytes o n low) (w : Joint bytes at n high) where
   pub halves : (whole ≡ 0 → (low ≡ 0) × (high ≡ 0)) → (low ≡ 0 → high ≡ 0 → whole ≡ 0) → Joint bytes o m whole
