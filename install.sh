@@ -1,7 +1,7 @@
 #!/usr/bin/env bash
 # Installs the static library, its header and a pkg-config file below a prefix: ./install.sh PREFIX
-# The library is built first if it is missing or older than its sources (./build.sh): on a fresh clone that proves it, for an hour or
-# so. Nothing is printed but errors, and that it is being built, to standard error.
+# The library is built first if it is missing or older than its sources (./build.sh): on a fresh clone that proves it, five minutes on
+# four cores. Nothing is printed but errors, and that it is being built, to standard error.
 set -euo pipefail
 if [ $# -ne 1 ] || [ -z "$1" ]; then
     echo "usage: ./install.sh PREFIX" >&2
