@@ -2,7 +2,7 @@
 use Prim.Native.Nat.{ℕ, suc, ◌+◌, ◌*◌, ◌-◌, ◌<◌, ◌≤◌}
 use native.Mathlib.Omega.{arith}
 use native.Mathlib.Numerals.{add-one}
-use mathlib.Core.Path.{◌≡◌, refl, ap₂}
+use mathlib.Core.Path.{◌≡◌, refl}
 use mathlib.Core.Bool.{Bool, true, false, not, ◌&&◌, ◌||◌}
 use lib.Dec.{eqb}
 use Rattle.std.specs.List.{list_any}
@@ -49,12 +49,6 @@ module _ (bytes : List ℕ) where
   module _ (head count : ℕ) where
     abbrev pub runs_after : ℕ → List Run
     runs_after i = runs_from bytes (head + 6 * i) (count - i)
-
-    pub runs_all : runs_after 0 ≡ runs_from bytes head count
-    runs_all =
-        let a : head + 6 * 0 ≡ head = omega arith in
-        let b : count - 0 ≡ count = omega arith in
-        ap₂ (runs_from bytes) a b
 
     pub runs_left : (i : ℕ) → i < count → runs_after i ≡ run_at bytes (head + 6 * i) ∷ runs_after (i + 1)
     unfolding runs_from

@@ -14,6 +14,7 @@ use Rattle.comparison.proofs.Samples.{bits_test, samples_next, samples_differ, s
 use Rattle.comparison.proofs.tables.same_samples.Goals.{After-signed}
 use Rattle.comparison.proofs.tables.same_samples.Goals as goal
 
+-- a sample and the one that is stated, by their bits
 bits : (c : After-signed) → eqb (of_z w16 (get_or c.args.samples.now c.loop-i.i (pos 0))) (of_z w16 c.signed.result)
     ≡ same_sample (get_or c.args.samples.now c.loop-i.i (pos 0)) c.signed.result
 bits c = bits_test _ _ (record { sfits = omega arith }) (record { sfits = c.signed.type_inv })
